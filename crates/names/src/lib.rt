@@ -1,0 +1,1 @@
+// A name as bytes and as one number.

@@ -1,0 +1,6 @@
+pub mod System
+pub mod Unique
+pub mod Rank
+pub mod Front
+pub mod Jump
+pub mod Compute

@@ -1,0 +1,1 @@
+// Runs over any step system: definitions and laws, no code.
