@@ -1,3 +1,4 @@
+pub mod Kinds
 pub mod Labels
 pub mod Order
 pub mod SoundStand

@@ -18,7 +18,7 @@ use Rattle.names.specs.If.{if}
 use Rattle.stands.specs.Stands.{among, empty, names, finished, possible, moved, message, rollback, even, evenly, cause, start, step, pair}
 use Rattle.compliance.specs.Compliance.{Neither, Both, H, Compliant}
 use Rattle.compliance.specs.Labels.{Few, labelled}
-use Rattle.stands.specs.Kinds.{Kind, by-message, by-rollback, kind}
+use Rattle.compliance.specs.Kinds.{Kind, by-message, by-rollback, kind}
 use Rattle.runs.specs.System.{System, from, after, ToBad, Verdict, compliant, stuck, IsVerdict}
 use Rattle.runs.specs.Rank.{from-snoc}
 
