@@ -8,3 +8,4 @@ pub mod Sorted
 pub mod Fair
 pub mod RoundTrip
 pub mod ReadValid
+pub mod Soundness

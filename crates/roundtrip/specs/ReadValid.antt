@@ -27,7 +27,7 @@ use Rattle.aut.specs.File.{refuse, accept, markedFinished, finish, next, lines,
 use Rattle.writer.specs.Text.{afterState}
 use Rattle.roundtrip.specs.Bools.{never}
 use Rattle.roundtrip.specs.Rebuild.{holding, AllBetween, Signed, Settled, rest-zero}
-use Rattle.roundtrip.specs.Sorted.{Sorted, AtLeast, insert-sorted, insert-between, insert-length, sorted-ascend, settled-message, settled-mark}
+use Rattle.roundtrip.specs.Sorted.{Sorted, AtLeast, insert-sorted, insert-between, insert-length, settled-message, settled-mark}
 use Rattle.roundtrip.specs.RoundTrip.{Valid}
 use Rattle.roundtrip.specs.Fair.{LabelFair, All, line-fair}
 
@@ -157,10 +157,10 @@ finish-fine s n low high few mk gs a h = go (ltb (markedFinished 0 mk gs) mostSt
       used = a;
       is = refl;
       settled = h .settled;
-      ascend = sorted-ascend a (h .sorted);
+      sorted = h .sorted;
       between = h .between;
       counted = omega arith;
-      unfinished = rw e;
+      unfinished = ltb-false _ _ e;
     }
 
     go : (t : Bool) → ltb (markedFinished 0 mk gs) mostStates ≡ t → if t (refuse 11 (markedFinished 0 mk gs)) (accept (holding s mk gs a)) .refusal .number ≡ 0 → Valid (if t (refuse 11 (markedFinished 0 mk gs)) (accept (holding s mk gs a)) .value)

@@ -5,7 +5,7 @@ use mathlib.Core.Bool.{Bool, true, false}
 use mathlib.Core.Logic.{_⊎_, inl, inr}
 use Prim.Native.Nat.{ℕ, zero, suc, _+_, _-_, _<_, _≤_}
 use native.Mathlib.Omega.{arith}
-use borrow.Author.Tests.{eq-eqb, ne-eqb}
+use borrow.Author.Tests.{eq-eqb, ne-eqb, le-ltb}
 use lib.Dec.{eqb}
 use lib.ListN.{length, length-append, replicate}
 use lib.Seq.{take-append-seam}
@@ -20,13 +20,14 @@ use Rattle.behaviour.specs.Limits.{mostStates, mostLines, mostBytes}
 use Rattle.behaviour.specs.Sound.{messages, total}
 use Rattle.aut.specs.declared.Read.{Read}
 use Rattle.aut.specs.Adding.{unused, bare}
-use Rattle.aut.specs.File.{finish, accept, file}
+use Rattle.aut.specs.File.{markedFinished, finish, accept, file}
 use Rattle.writer.specs.Spelling.{headText}
 use Rattle.writer.specs.Text.{messageLabel, messageLine, markLine, messageLines, afterState, linesFrom, linesOf, linesText, lineCount, text}
 use Rattle.writer.specs.Lengths.{parts-length, text-few}
 use Rattle.roundtrip.specs.Lines.{Allowed}
 use Rattle.roundtrip.specs.AddAll.{addAll, Writable, Each, none, more, file-added}
-use Rattle.roundtrip.specs.Rebuild.{holding, Below, Ascend, AllBetween, Signed, Settled, lines-rebuilt}
+use Rattle.roundtrip.specs.Rebuild.{holding, AllBetween, Settled, lines-rebuilt}
+use Rattle.roundtrip.specs.Sorted.{Sorted, sorted-ascend}
 
 each-append : (a b : List Line) → Each a → Each b → Each (a ++ b)
 each-append [] b p q = q
@@ -101,10 +102,10 @@ pub record Valid (b : Behaviour) : Type 0 where
   pub used : List Message
   pub is : b ≡ holding (b .states) (b .marks) (b .signs) used
   pub settled : Settled (b .states) 0 (b .marks) (b .signs) used
-  pub ascend : Ascend [] used
+  pub sorted : Sorted used
   pub between : AllBetween (b .states) used
   pub counted : total (b .marks) + length used ≤ mostLines
-  pub unfinished : finish b ≡ accept b
+  pub unfinished : mostStates ≤ markedFinished 0 (b .marks) (b .signs)
 
 pub round-trip : (b : Behaviour) → Valid b → file (text b) ≡ accept b
 unfolding text
@@ -118,7 +119,7 @@ round-trip b v =
     ∙ file-added (b .states) ls (v .low) (v .high) (omega (arith, all, t)) (each-line (b .states) (v .high) (b .marks) (b .signs) 0 (v .used) (v .settled) (v .between)) short
     ∙ rebuilt
     ∙ ap {B = Read} (λ (x : Behaviour). finish x) (sym (v .is))
-    ∙ v .unfinished
+    ∙ rw (le-ltb (markedFinished 0 (b .marks) (b .signs)) mostStates (v .unfinished))
   where
     firsts : messages b ≡ v .used
     firsts = ap (λ (x : Behaviour). messages x) (v .is) ∙ take-append-seam (v .used) (replicate (mostLines - length (v .used)) unused)
@@ -137,4 +138,4 @@ round-trip b v =
     rebuilt =
         subst (λ (n : ℕ). addAll 2 (holding (b .states) (replicate n 0) (replicate mostStates 0) []) (linesFrom 0 (b .marks) (b .signs) (v .used)) ≡ finish (holding (b .states) (b .marks) (b .signs) (v .used))) (v .ten-marks)
         (subst (λ (n : ℕ). addAll 2 (holding (b .states) (replicate (length (b .marks)) 0) (replicate n 0) []) (linesFrom 0 (b .marks) (b .signs) (v .used)) ≡ finish (holding (b .states) (b .marks) (b .signs) (v .used))) (v .ten-signs)
-        (lines-rebuilt (b .states) (b .marks) (b .signs) 0 (v .used) [] [] [] refl refl (v .settled) (v .ascend) (v .between) (let f = v .counted in omega arith) 2))
+        (lines-rebuilt (b .states) (b .marks) (b .signs) 0 (v .used) [] [] [] refl refl (v .settled) (sorted-ascend (v .used) (v .sorted)) (v .between) (let f = v .counted in omega arith) 2))

@@ -59,7 +59,7 @@ other-way m x e d = go (ltb (m .from) (x .from)) (eqb (m .from) (x .from)) (ltb 
     go false false u p q r h =
         let n : m .from ≡ x .from → ⊥ = eqb-false _ _ q in let l : x .from ≤ m .from = ltb-false _ _ p in comes x m (inl (omega arith))
 
-above-trans : (a b : Message) (l : List Message) → before a b ≡ true → Above b l → Above a l
+pub above-trans : (a b : Message) (l : List Message) → before a b ≡ true → Above b l → Above a l
 above-trans a b [] e h = tt
 above-trans a b (x ∷ l) e h = (before-trans a b x e (h .0), above-trans a b l e (h .1))
 
@@ -159,7 +159,7 @@ abbrev pub AtLeast : ℕ → List Message → Type 0
 AtLeast k [] = Unit {0}
 AtLeast k (m ∷ l) = (k ≤ m .from) × AtLeast k l
 
-least-above : (k : ℕ) (x : Message) (l : List Message) → Above x l → k ≤ x .from → AtLeast k l
+pub least-above : (k : ℕ) (x : Message) (l : List Message) → Above x l → k ≤ x .from → AtLeast k l
 least-above k x [] h p = tt
 least-above k x (y ∷ l) h p = (go (order x y (h .0)), least-above k x l (h .1) p)
   where
@@ -167,7 +167,7 @@ least-above k x (y ∷ l) h p = (go (order x y (h .0)), least-above k x l (h .1)
     go (inl q) = omega arith
     go (inr q) = omega arith
 
-after-sorted : (k : ℕ) (l : List Message) → Sorted l → AtLeast k l → Sorted (afterState k l) × AtLeast (k + 1) (afterState k l)
+pub after-sorted : (k : ℕ) (l : List Message) → Sorted l → AtLeast k l → Sorted (afterState k l) × AtLeast (k + 1) (afterState k l)
 unfolding afterState
 after-sorted k [] s a = (tt, tt)
 after-sorted k (x ∷ l) s a = go (eqb (x .from) k) refl (after-sorted k l (s .1) (a .1))
