@@ -9,3 +9,4 @@ pub mod Fair
 pub mod RoundTrip
 pub mod ReadValid
 pub mod Soundness
+pub mod Theorems

@@ -27,7 +27,7 @@ use Rattle.aut.specs.File.{refuse, accept, markedFinished, finish, next, lines,
 use Rattle.writer.specs.Text.{afterState}
 use Rattle.roundtrip.specs.Bools.{never}
 use Rattle.roundtrip.specs.Rebuild.{holding, AllBetween, Signed, Settled, rest-zero}
-use Rattle.roundtrip.specs.Sorted.{Sorted, AtLeast, insert-sorted, insert-between, insert-length, settled-message, settled-mark}
+use Rattle.roundtrip.specs.Sorted.{Sorted, least, insert-sorted, insert-between, insert-length, settled-message, settled-mark}
 use Rattle.roundtrip.specs.RoundTrip.{Valid}
 use Rattle.roundtrip.specs.Fair.{LabelFair, All, line-fair}
 
@@ -53,10 +53,6 @@ pub record Held (s n : ℕ) (mk gs : List ℕ) (l : List Message) : Type 0 where
   pub settled : Settled s 0 mk gs l
   pub between : AllBetween s l
   pub counted : total mk + length l ≤ n
-
-least : (l : List Message) → AtLeast 0 l
-least [] = tt
-least (m ∷ l) = (omega arith, least l)
 
 message-added : (s : ℕ) (p q : List ℕ) (a : List Message) (m : Message) (g : ℕ) → length a < mostLines → addMessage (holding s p q a) g m ≡ holding s p (set q (m .from) g) (insert m a)
 message-added s p q a m g r =

@@ -84,7 +84,7 @@ lines-counted s k (m ∷ ms) (g ∷ gs) l o =
     let h = lines-counted s (k + 1) ms gs (afterState k l) (o .2) in
     let p = parts-length k g l in
     let e : length (messageLines k g l ++ linesFrom (k + 1) ms gs (afterState k l)) ≡ length (messageLines k g l) + length (linesFrom (k + 1) ms gs (afterState k l)) =
-        length-append (messageLines k g l) (linesFrom (k + 1) ms gs (afterState k l)) in
+    length-append (messageLines k g l) (linesFrom (k + 1) ms gs (afterState k l)) in
     go (eqb m 1) (omega arith)
   where
     go : (t : Bool) → length (messageLines k g l ++ linesFrom (k + 1) ms gs (afterState k l)) ≡ total ms + length l
@@ -114,7 +114,7 @@ round-trip b v =
     let c = v .counted in
     let t : length ls ≡ lineCount b = lines-counted (b .states) 0 (b .marks) (b .signs) (v .used) (v .settled) ∙ all in
     let short : length (headText (length ls) (b .states) ++ linesText ls) ≤ mostBytes =
-        subst (λ (w : List ℕ). length w ≤ mostBytes) (sym (same t)) (text-few b (omega (arith, all))) in
+    subst (λ (w : List ℕ). length w ≤ mostBytes) (sym (same t)) (text-few b (omega (arith, all))) in
     ap file (sym (same t))
     ∙ file-added (b .states) ls (v .low) (v .high) (omega (arith, all, t)) (each-line (b .states) (v .high) (b .marks) (b .signs) 0 (v .used) (v .settled) (v .between)) short
     ∙ rebuilt

@@ -159,6 +159,10 @@ abbrev pub AtLeast : ℕ → List Message → Type 0
 AtLeast k [] = Unit {0}
 AtLeast k (m ∷ l) = (k ≤ m .from) × AtLeast k l
 
+pub least : (l : List Message) → AtLeast 0 l
+least [] = tt
+least (m ∷ l) = (omega arith, least l)
+
 pub least-above : (k : ℕ) (x : Message) (l : List Message) → Above x l → k ≤ x .from → AtLeast k l
 least-above k x [] h p = tt
 least-above k x (y ∷ l) h p = (go (order x y (h .0)), least-above k x l (h .1) p)

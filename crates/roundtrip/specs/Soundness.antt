@@ -180,8 +180,7 @@ settled-of s k (m ∷ ms) [] l n h o a b e = absurd (omega arith)
 settled-of s k (m ∷ ms) (g ∷ gs) l n h o a b e =
     let p = parts k m g ms gs l e in
     let sign = sign-of k g l o a (p .0) in
-    let r = after-sorted k l o a in
-    (
+    let r = after-sorted k l o a in (
       mark sign (markable-of m g (p .1)),
       sign,
       settled-of s (k + 1) ms gs (afterState k l) (omega arith) (omega arith) (r .0) (r .1) (between-after s k l b) (settled-after k ms gs l ∙ p .2),

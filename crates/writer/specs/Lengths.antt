@@ -78,7 +78,7 @@ lines-few (m ∷ ms) (g ∷ gs) k l =
     let h = lines-few ms gs (k + 1) (afterState k l) in
     let p = parts-length k g l in
     let e : length (messageLines k g l ++ linesFrom (k + 1) ms gs (afterState k l)) ≡ length (messageLines k g l) + length (linesFrom (k + 1) ms gs (afterState k l)) =
-        length-append (messageLines k g l) (linesFrom (k + 1) ms gs (afterState k l)) in
+    length-append (messageLines k g l) (linesFrom (k + 1) ms gs (afterState k l)) in
     go (eqb m 1) (omega arith)
   where
     go : (t : Bool) → length (messageLines k g l ++ linesFrom (k + 1) ms gs (afterState k l)) ≤ total ms + length l
