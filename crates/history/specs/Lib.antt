@@ -1,0 +1,7 @@
+pub mod Calls
+pub mod Side
+pub mod Point
+pub mod Demand
+pub mod Determined
+pub mod Meets
+pub mod Shams
