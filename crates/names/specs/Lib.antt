@@ -1,2 +1,3 @@
 pub mod If
 pub mod Names
+pub mod Places
