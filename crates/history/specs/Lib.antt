@@ -3,5 +3,6 @@ pub mod Side
 pub mod Point
 pub mod Demand
 pub mod Determined
+pub mod Played
 pub mod Meets
 pub mod Shams
