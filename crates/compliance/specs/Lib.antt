@@ -4,5 +4,5 @@ pub mod Order
 pub mod SoundStand
 pub mod Kept
 pub mod Compliance
-pub mod Same
+pub mod NoBadRun
 pub mod OneJudgement

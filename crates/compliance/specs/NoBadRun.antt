@@ -16,11 +16,11 @@ use Rattle.stands.specs.declared.ServerPoint.the-variants as server
 use Rattle.stands.specs.declared.Stand.{Stand}
 use Rattle.names.specs.If.{if}
 use Rattle.stands.specs.Stands.{among, empty, names, finished, possible, moved, message, rollback, even, evenly, cause, start, step, pair}
-use Rattle.compliance.specs.Compliance.{Neither, Both, H, Compliant}
+use Rattle.compliance.specs.Compliance.{Neither, Both, Ended, H, Closed, Greatest, Compliant}
 use Rattle.compliance.specs.Labels.{Few, labelled}
 use Rattle.compliance.specs.Kinds.{Kind, by-message, by-rollback, kind}
 use Rattle.runs.specs.System.{System, from, after, ToBad, Verdict, compliant, stuck, IsVerdict}
-use Rattle.runs.specs.Rank.{from-snoc}
+use Rattle.runs.specs.Rank.{opened}
 
 empty-nil : (l : List ℕ) → empty l ≡ true → l ≡ []
 empty-nil [] e = refl
@@ -53,7 +53,7 @@ module _ (c s : Behaviour) (p : Stand) where
           let z : _≡_ {A = ℕ} 0 1 = cc in omega arith)
 
   -- condition 1 fails exactly at a bad stand
-  pub fine-cause : (((n : ℕ) → message c s p n ≡ none) → (names c (p .client .0) ≡ []) × (Neither p ⊎ Both p)) → cause c s p ≡ 0
+  pub fine-cause : (((n : ℕ) → message c s p n ≡ none) → Ended c p) → cause c s p ≡ 0
   unfolding cause
   fine-cause f = go (empty (possible c s (p .client) (p .server))) refl
     where
@@ -61,72 +61,87 @@ module _ (c s : Behaviour) (p : Stand) where
       go false e = refl
       go true e = let h = f (none-yes e) in rw (h .0, even-of p (h .1))
 
-  pub cause-fine : cause c s p ≡ 0 → ((n : ℕ) → message c s p n ≡ none) → (names c (p .client .0) ≡ []) × (Neither p ⊎ Both p)
+  pub cause-fine : cause c s p ≡ 0 → ((n : ℕ) → message c s p n ≡ none) → Ended c p
   unfolding cause
   cause-fine e f = go (finished c (p .client .0)) (even p) refl refl (rw (none-no f) at e)
     where
-      go : (a b : Bool) → finished c (p .client .0) ≡ a → even p ≡ b → _≡_ {A = ℕ} (if a (if b 0 2) 1) 0 → (names c (p .client .0) ≡ []) × (Neither p ⊎ Both p)
+      go : (a b : Bool) → finished c (p .client .0) ≡ a → even p ≡ b → _≡_ {A = ℕ} (if a (if b 0 2) 1) 0 → Ended c p
       go true true g h e = (empty-nil (names c (p .client .0)) g, even-yes (p .clientpoint) (p .serverpoint) h)
       go true false g h e = absurd (omega arith)
       go false b g h e = absurd (omega arith)
 
 module _ (c s : Behaviour) where
-  stays : (k : Compliant c s) (p : Stand) (w : List ℕ) (q : Stand) → k .R p → from (pair c s) (some p) w ≡ some q → k .R q
-  unfolding from
-  stays k p [] q r e = subst (k .R) (cc) r
-  stays k p (x ∷ w) q r e = go (step c s p x) refl e (λ m. stays k m w q)
+  -- no run from p reaches a bad stand
+  unfoldable pub Safe : Stand → Type 0
+  Safe p = (w : List ℕ) (q : Stand) → from (pair c s) (some p) w ≡ some q → 0 < cause c s q → ⊥
+
+  -- a step, and what holds after every step
+  after-step : (A : Stand → Type 0) (p m : Stand) (x : ℕ) → H c s A p → step c s p x ≡ some m → A m
+  after-step A p m x h e = go (kind c s p m x e)
     where
-      one : (m : Stand) → Kind c s p m x → k .R m
-      one m (by-message n a f) = k .closed p r .forward n m f
-      one m (by-rollback a f) = k .closed p r .backward m f
+      go : Kind c s p m x → A m
+      go (by-message n a f) = h .forward n m f
+      go (by-rollback a f) = h .backward m f
 
-      go : (o : Option Stand) → step c s p x ≡ o → from (pair c s) o w ≡ some q → ((m : Stand) → k .R m → from (pair c s) (some m) w ≡ some q → k .R q) → k .R q
-      go none f e rec = absurd (nowhere w e)
-        where
-          nowhere : (w : List ℕ) → from (pair c s) none w ≡ some q → ⊥
-          nowhere [] e = let z : _≡_ {A = ℕ} 0 1 = cc in omega arith
-          nowhere (x ∷ w) e = let z : _≡_ {A = ℕ} 0 1 = cc in omega arith
-      go (some m) f e rec = rec m (one m (kind c s p m x f)) e
+  -- a checkpoint compliance relation is not left by any run
+  pub stays : (R : Stand → Type 0) → Closed c s R → (w : List ℕ) (p q : Stand) → R p → from (pair c s) (some p) w ≡ some q → R q
+  unfolding from
+  stays R k [] p q r e = subst R (cc) r
+  stays R k (x ∷ w) p q r e = let o = opened (pair c s) (step c s p x) w q e in
+      stays R k w (o .0) q (after-step R p (o .0) x (k p r) (o .1)) (subst (λ i. from (pair c s) i w ≡ some q) (o .1) e)
 
-  pub safe : Compliant c s → (w : List ℕ) → ToBad (pair c s) w → ⊥
-  safe k w b = omega (arith, b .bad, fine-cause c s (b .node) (k .closed (b .node) (stays k start w (b .node) (k .holds) (b .leads)) .ended))
+  -- so all of it is safe
+  pub closed-safe : (R : Stand → Type 0) → Closed c s R → (p : Stand) → R p → Safe p
+  unfolding Safe
+  closed-safe R k p r w q e b = omega (arith, b, fine-cause c s q (k q (stays R k w p q r e) .ended))
 
-  module _ (h : Few c s) (n : (w : List ℕ) → ToBad (pair c s) w → ⊥) where
-    Reached : Stand → Type 0
-    Reached p = (w : List ℕ) × (after (pair c s) w ≡ some p)
+  pub safe-contains : (p : Stand) → H c s Safe p → Safe p
+  unfolding Safe from
+  safe-contains p h [] q e b = let f : p ≡ q = cc in omega (arith, subst (λ i. 0 < cause c s i) (sym f) b, fine-cause c s p (h .ended))
+  safe-contains p h (x ∷ w) q e b = let o = opened (pair c s) (step c s p x) w q e in
+      after-step Safe p (o .0) x h (o .1) w q (subst (λ i. from (pair c s) i w ≡ some q) (o .1) e) b
 
-    on : (p q : Stand) (k : ℕ) → Reached p → step c s p k ≡ some q → Reached q
-    unfolding Reached
-    on p q k (w, e) f = (w ++ k ∷ [], from-snoc (pair c s) (some start) w k p e ∙ f)
-
-    zero-cause : (p : Stand) → Reached p → (k : ℕ) → cause c s p ≡ k → k ≡ 0
-    unfolding Reached
-    zero-cause p (w, e) zero f = refl
-    zero-cause p (w, e) (suc k) f = absurd (n w (record { node = p; leads = e; bad = omega (arith, f) }))
-
-    by-255 : (p q : Stand) → rollback p ≡ some q → step c s p 255 ≡ some q
-    unfolding step
-    by-255 p q e = e
-
-    inside : (p : Stand) → Reached p → H c s Reached p
-    inside p r = record {
-      ended = cause-fine c s p (zero-cause p r (cause c s p) refl);
-      forward = λ n q e. let k = labelled c s h p q n e in on p q (k .0) r (k .1);
-      backward = λ q e. on p q 255 r (by-255 p q e);
+  module _ (few : Few c s) where
+    pub safe-within : Closed c s Safe
+    unfolding Safe from step
+    safe-within p r = record {
+      ended = cause-fine c s p (nil (cause c s p) refl);
+      forward = λ n q e w o f b. let k = labelled c s few p q n e in r (k .0 ∷ w) o (subst (λ i. from (pair c s) i w ≡ some o) (sym (k .1)) f) b;
+      backward = λ q e w o f b. r (255 ∷ w) o (subst (λ i. from (pair c s) i w ≡ some o) (sym e) f) b;
     }
+      where
+        nil : (k : ℕ) → cause c s p ≡ k → k ≡ 0
+        nil zero e = refl
+        nil (suc k) e = absurd (r [] p refl (omega (arith, e)))
 
-    pub complete : Compliant c s
-    unfolding Reached from
-    complete = record { R = Reached; closed = inside; holds = ([], refl) }
+    -- ii) the greatest solution of X = H(X) is: no run reaches a bad stand
+    pub greatest : Greatest c s Safe
+    greatest = record { within = safe-within; contains = safe-contains; above = closed-safe }
 
+    pub safe-compliant : ((w : List ℕ) → ToBad (pair c s) w → ⊥) → Compliant c s
+    unfolding Safe
+    safe-compliant n = record { R = Safe; closed = safe-within; holds = λ w q e b. n w (record { node = q; leads = e; bad = b }) }
+
+    -- iii) whatever relation is the greatest solution, it holds the start exactly if the pair is compliant
+    pub greatest-start : (X : Stand → Type 0) → Greatest c s X → Compliant c s → X start
+    greatest-start X g k = g .above (k .R) (k .closed) start (k .holds)
+
+    pub start-compliant : (X : Stand → Type 0) → Greatest c s X → X start → Compliant c s
+    start-compliant X g x = record { R = X; closed = g .within; holds = x }
+
+  pub compliant-safe : Compliant c s → (w : List ℕ) → ToBad (pair c s) w → ⊥
+  unfolding Safe
+  compliant-safe k w b = closed-safe (k .R) (k .closed) start (k .holds) w (b .node) (b .leads) (b .bad)
+
+  -- a pair is compliant exactly if no run reaches a bad stand
   pub same : Few c s → Compliant c s ↔ ((w : List ℕ) → ToBad (pair c s) w → ⊥)
-  same h = (safe, complete h)
+  same h = (compliant-safe, safe-compliant h)
 
   -- so the verdict is Definition 3.1's
   pub compliant-is : Few c s → (k : ℕ) → IsVerdict (pair c s) (compliant k) → Compliant c s
   unfolding IsVerdict
-  compliant-is h k v = complete h (v .1)
+  compliant-is h k v = safe-compliant h (v .1)
 
   pub stuck-is : (r : List ℕ) → IsVerdict (pair c s) (stuck r) → Compliant c s → ⊥
   unfolding IsVerdict
-  stuck-is r v k = safe k r (v .0)
+  stuck-is r v k = compliant-safe k r (v .0)
