@@ -1,0 +1,6 @@
+pub mod Answers
+pub mod Opening
+pub mod Sides
+pub mod Steps
+pub mod Range
+pub mod Demand3
