@@ -1,0 +1,4 @@
+pub mod RunText
+pub mod Output
+pub mod Reports
+pub mod OneOutput
