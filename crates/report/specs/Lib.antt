@@ -2,3 +2,4 @@ pub mod RunText
 pub mod Output
 pub mod Reports
 pub mod OneOutput
+pub mod Examples
