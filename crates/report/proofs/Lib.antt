@@ -1,3 +1,4 @@
 pub mod Shortest
 pub mod Ranged
 pub mod Few
+pub mod Following

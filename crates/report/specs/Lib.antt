@@ -3,3 +3,4 @@ pub mod Output
 pub mod Reports
 pub mod OneOutput
 pub mod Examples
+pub mod Followed
