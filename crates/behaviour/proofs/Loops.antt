@@ -103,15 +103,6 @@ module _ (l : List Message) (ms gs : List ℕ) (k i : ℕ) where
     unfolding settled
     settled-more e = rw (here 0 ms i h, here 0 gs i j) (both-yes (signed (speaks k l) (getD gs i 0)) (markable (getD ms i 0) (getD gs i 0)) _ e)
 
-pub total-most : (l : List ℕ) → total l ≤ length l
-unfolding total
-total-most [] = omega arith
-total-most (m ∷ l) = go (eqb m 1) (total-most l)
-  where
-    go : (b : Bool) → total l ≤ length l → if b (suc (total l)) (total l) ≤ suc (length l)
-    go true r = omega arith
-    go false r = omega arith
-
 module _ (a : List ℕ) (i : ℕ) where
   pub total-end : length a ≤ i → total (drop i a) ≡ 0
   unfolding total

@@ -6,7 +6,7 @@ use lib.ListN.{length}
 use borrow.Author.Tests.{not-true, not-false}
 use borrow.Author.Needs.{needs}
 use Rattle.behaviour.specs.Sound.{total}
-use Rattle.behaviour.proofs.Loops.{total-most}
+use Rattle.behaviour.specs.SoundLaws.{total-most}
 use Rattle.behaviour.proofs.Sounding.{none-stateless, none-wider, none-longer, in-range}
 use Rattle.behaviour.proofs.is_sound.Statement.{statement}
 use Rattle.behaviour.proofs.is_sound.Tie as tie

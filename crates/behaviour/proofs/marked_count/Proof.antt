@@ -5,7 +5,8 @@ use native.Mathlib.Omega.{arith}
 use lib.ListN.{length, drop}
 use borrow.Author.Needs.{needs}
 use Rattle.behaviour.specs.Sound.{total}
-use Rattle.behaviour.proofs.Loops.{total-end, total-next, total-most}
+use Rattle.behaviour.specs.SoundLaws.{total-most}
+use Rattle.behaviour.proofs.Loops.{total-end, total-next}
 use Rattle.behaviour.proofs.marked_count.Statement.{statement}
 use Rattle.behaviour.proofs.marked_count.Tie as tie
 
