@@ -6,3 +6,4 @@ pub mod Jump
 pub mod Compute
 pub mod Update
 pub mod Grown
+pub mod Trace

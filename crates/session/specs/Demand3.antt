@@ -1,59 +1,30 @@
 -- Demand 3 of the calls that this crate gives, on every pair that opening accepts.
-use mathlib.Core.Path.{_≡_, refl, sym, _∙_, ap, subst}
-use mathlib.Core.Bool.{Bool, true, false}
+use mathlib.Core.Path.{_≡_, refl, sym, _∙_, ap}
+use mathlib.Core.Bool.{true}
 use mathlib.Core.List.{List, [], _∷_, _++_}
 use mathlib.Core.Option.{Option, none, some}
-use mathlib.Core.Logic.{_⊎_, inl, inr}
-use Prim.Native.Nat.{ℕ, zero, suc, _<_, _≤_}
+use Prim.Native.Nat.{ℕ, zero, suc}
 use native.Mathlib.Omega.{arith}
-use lib.Dec.{eqb}
-use Rattle.names.specs.If.{if}
 use Rattle.behaviour.specs.declared.Behaviour.{Behaviour}
-use Rattle.behaviour.specs.Sound.{sound}
 use Rattle.runs.specs.System as runs
 use Rattle.runs.specs.Rank.{from-snoc}
-use Rattle.stands.specs.declared.ClientState.{ClientState}
-use Rattle.stands.specs.declared.ServerState.{ServerState}
 use Rattle.stands.specs.declared.Stand.{Stand}
 use Rattle.stands.specs.Stands.{said, cause, start, step, pair}
 use Rattle.stands.specs.Stands as rules
 use Rattle.stands.specs.Judgement.{compliant, Judged}
 use Rattle.compliance.specs.Labels.{few, labelled}
 use Rattle.verdict.specs.Answer.{BothSound}
-use Rattle.history.specs.Calls.{Call, message, rollback, Calls, opening, _then_}
-use Rattle.history.specs.Side.{Possible}
-use Rattle.history.specs.Demand.{Seen, ClientPoint, ServerPoint, Demand}
-use Rattle.history.specs.Played.{Standing, has, session, seen}
-use Rattle.history.specs.Meets.{Moved, Rolled, Steps, Told, told, meets}
+use Rattle.history.specs.Calls.{Call, message, rollback, Calls, opening}
+use Rattle.history.specs.Demand.{ClientPoint, ServerPoint, Demand}
+use Rattle.history.specs.Played.{has, session}
+use Rattle.history.specs.Meets.{Steps, told, meets}
 use Rattle.session.specs.declared.Session.{Session}
-use Rattle.session.specs.declared.Answer.{Answer}
-use Rattle.session.specs.declared.Answer.the-variants as answer
-use Rattle.session.specs.Answers.{holds, fault, checked, stepped, named, messaged, rolledBack}
-use Rattle.session.specs.Opening.{opened, Begins, Opens}
-use Rattle.session.specs.Sides.{clientSide, serverSide, clientPoint, serverPoint, standing}
+use Rattle.session.specs.Answers.{fault, stepped, named, messaged, rolledBack}
+use Rattle.session.specs.Opening.{opened, Begins}
+use Rattle.session.specs.Sides.{clientSide, serverSide, clientPoint, serverPoint}
+use Rattle.session.specs.Watched.{answered, handedBack, next, at, watched}
 use Rattle.session.specs.Steps.{speaks, moves, going, rolls, goes-back}
 use Rattle.session.specs.Range.{Sized, sized, Within, within-holds, start-within, message-within, rollback-within}
-
--- what a call answers
-unfoldable pub answered : Behaviour → Behaviour → Session → Call → Answer
-answered c s z (message n) = messaged c s z n
-answered c s z rollback = rolledBack c s z
-
--- the session that an answer hands back
-abbrev pub handedBack : Answer → Option Session
-handedBack (answer.Next y) = some y
-handedBack (answer.Refused f) = none
-
-abbrev pub next : Behaviour → Behaviour → Session → Call → Option Session
-next c s z k = handedBack (answered c s z k)
-
--- where both sides stand in a session
-abbrev pub at : Session → Standing ClientState ServerState
-at z = standing (z .stand)
-
--- what is seen of a session that was opened as z, over any calls with the pair c, s
-abbrev pub watched : Behaviour → Behaviour → Session → Seen ClientState ServerState
-watched c s z = seen (next c s) z at
 
 -- what holds of every session that comes up: a run leads there, and 15 is not given
 record Good (c s : Behaviour) (z : Session) : Type 0 where

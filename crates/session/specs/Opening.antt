@@ -7,6 +7,7 @@ use Prim.Native.Nat.{ℕ}
 use native.Mathlib.Omega.{arith}
 use Rattle.behaviour.specs.declared.Behaviour.{Behaviour}
 use Rattle.behaviour.specs.declared.Refusal.{Refusal}
+use Rattle.behaviour.specs.Refusals.{refusal}
 use Rattle.behaviour.specs.Sound.{sound}
 use Rattle.stands.specs.Stands.{start}
 use Rattle.stands.specs.Judgement.{Judgement, compliant, stuck, Judged}
@@ -15,7 +16,6 @@ use Rattle.verdict.specs.Answer.{BothSound, Unsound}
 use Rattle.session.specs.declared.Session.{Session}
 use Rattle.session.specs.declared.Answer.{Answer}
 use Rattle.session.specs.declared.Answer.the-variants as answer
-use Rattle.session.specs.Answers.{refusal}
 
 -- "Opening hands back the start (both at state 0, both return points none)"
 abbrev pub opened : Session
@@ -30,7 +30,7 @@ pub record Begins (c s : Behaviour) (z : Session) : Type 0 where
 
 -- 14 "session asked for on a pair that isn't compliant"
 pub record NotCompliant (c s : Behaviour) (f : Refusal) : Type 0 where
-  pub is : f ≡ refusal 14
+  pub is : f ≡ refusal 14 0
   pub sounds : BothSound c s
   pub cause : ℕ
   pub steps : List ℕ

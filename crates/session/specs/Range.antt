@@ -13,13 +13,14 @@ use Rattle.names.specs.Names.{isName}
 use Rattle.behaviour.specs.Limits.{mostStates, mostLines}
 use Rattle.behaviour.specs.declared.Message.{Message}
 use Rattle.behaviour.specs.declared.Behaviour.{Behaviour}
-use Rattle.behaviour.specs.Sound.{messages, allBetween, sorted, allBlank, settled, total, sound}
+use Rattle.behaviour.specs.Pick.{pick}
+use Rattle.behaviour.specs.Sound.{messages, allBetween, total, sound}
 use Rattle.stands.specs.declared.ClientPoint.{ClientPoint}
 use Rattle.stands.specs.declared.ClientPoint.the-variants as client
 use Rattle.stands.specs.declared.ServerPoint.{ServerPoint}
 use Rattle.stands.specs.declared.ServerPoint.the-variants as server
 use Rattle.stands.specs.declared.Stand.{Stand}
-use Rattle.stands.specs.Stands.{pick, is, among, marked, target, possible, moved, message, back, rollback, start}
+use Rattle.stands.specs.Stands.{is, among, marked, target, possible, moved, message, back, rollback, start}
 use Rattle.session.specs.Answers.{returns, clientReturns, serverReturns, holds}
 use Rattle.session.specs.Steps.{both-true}
 
@@ -62,9 +63,9 @@ in-range b x n z = lt-ltb (target b x n) (b .states) (ends-pick (b .states) (is 
 -- what 15 asks of a stand, in parts
 pub record Within (c s : Behaviour) (p : Stand) : Type 0 where
   pub client : ltb (p .client .0) (c .states) ≡ true
-  pub clientpoint : clientReturns c (p .clientpoint) ≡ true
+  pub clientpoint : clientReturns (c .states) (c .marks) (p .clientpoint) ≡ true
   pub server : ltb (p .server .0) (s .states) ≡ true
-  pub serverpoint : serverReturns s (p .serverpoint) ≡ true
+  pub serverpoint : serverReturns (s .states) (s .marks) (p .serverpoint) ≡ true
 
 pub within-holds : (c s : Behaviour) (p : Stand) → Within c s p → holds c s p ≡ true
 unfolding holds
@@ -74,11 +75,11 @@ pub start-within : (c s : Behaviour) → Sized c → Sized s → Within c s star
 start-within c s a b = record { client = lt-ltb 0 (c .states) (a .some-state); clientpoint = refl; server = lt-ltb 0 (s .states) (b .some-state); serverpoint = refl }
 
 module _ (c s : Behaviour) (a : Sized c) (b : Sized s) (p q : Stand) (w : Within c s p) where
-  client-kept : (t : Bool) → marked c (p .client .0) ≡ t → clientReturns c (if t (client.To (p .client)) (p .clientpoint)) ≡ true
+  client-kept : (t : Bool) → marked c (p .client .0) ≡ t → clientReturns (c .states) (c .marks) (if t (client.To (p .client)) (p .clientpoint)) ≡ true
   client-kept true e = rw (w .client, e)
   client-kept false e = w .clientpoint
 
-  server-kept : (t : Bool) → marked s (p .server .0) ≡ t → serverReturns s (if t (server.To (p .server)) (p .serverpoint)) ≡ true
+  server-kept : (t : Bool) → marked s (p .server .0) ≡ t → serverReturns (s .states) (s .marks) (if t (server.To (p .server)) (p .serverpoint)) ≡ true
   server-kept true e = rw (w .server, e)
   server-kept false e = w .serverpoint
 
@@ -103,7 +104,7 @@ module _ (c s : Behaviour) (a : Sized c) (b : Sized s) (p q : Stand) (w : Within
   unfolding rollback
   rollback-within = go (p .clientpoint) (p .serverpoint) (w .clientpoint) (w .serverpoint)
     where
-      go : (g : ClientPoint) (h : ServerPoint) → clientReturns c g ≡ true → serverReturns s h ≡ true → back g h ≡ some q → Within c s q
+      go : (g : ClientPoint) (h : ServerPoint) → clientReturns (c .states) (c .marks) g ≡ true → serverReturns (s .states) (s .marks) h ≡ true → back g h ≡ some q → Within c s q
       go (client.To x) (server.To y) e f k =
           let z : record { client = x; clientpoint = client.Nowhere; server = y; serverpoint = server.Nowhere } ≡ q = cc in
           subst (Within c s) z (record { client = both-true _ _ e .0; clientpoint = refl; server = both-true _ _ f .0; serverpoint = refl })
