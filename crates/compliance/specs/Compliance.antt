@@ -20,9 +20,13 @@ Neither p = (p .clientpoint ≡ client.Nowhere) × (p .serverpoint ≡ server.No
 abbrev pub Both : Stand → Type 0
 Both p = (x : ClientState) × (y : ServerState) × (p .clientpoint ≡ client.To x) × (p .serverpoint ≡ server.To y)
 
--- i) the stand p is in H(R): 1) where no forward step is, the client is finished and both or neither can go back; 2) every step leads into R
+-- i) 1) "ρ = 1 and either δ = γ = ∘ or δ, γ ∈ SB▲"
+abbrev pub Ended : Behaviour → Stand → Type 0
+Ended c p = (names c (p .client .0) ≡ []) × (Neither p ⊎ Both p)
+
+-- i) the stand p is in H(R): 1) if it has no forward step it is ended; 2) every step leads into R
 pub record H (c s : Behaviour) (R : Stand → Type 0) (p : Stand) : Type 0 where
-  pub ended : ((n : ℕ) → message c s p n ≡ none) → (names c (p .client .0) ≡ []) × (Neither p ⊎ Both p)
+  pub ended : ((n : ℕ) → message c s p n ≡ none) → Ended c p
   pub forward : (n : ℕ) (q : Stand) → message c s p n ≡ some q → R q
   pub backward : (q : Stand) → rollback p ≡ some q → R q
 

@@ -16,7 +16,7 @@ use Rattle.stands.specs.declared.ServerPoint.the-variants as server
 use Rattle.stands.specs.declared.Stand.{Stand}
 use Rattle.names.specs.If.{if}
 use Rattle.stands.specs.Stands.{among, empty, names, finished, possible, moved, message, rollback, even, evenly, cause, start, step, pair}
-use Rattle.compliance.specs.Compliance.{Neither, Both, H, Closed, Greatest, Compliant}
+use Rattle.compliance.specs.Compliance.{Neither, Both, Ended, H, Closed, Greatest, Compliant}
 use Rattle.compliance.specs.Labels.{Few, labelled}
 use Rattle.compliance.specs.Kinds.{Kind, by-message, by-rollback, kind}
 use Rattle.runs.specs.System.{System, from, after, ToBad, Verdict, compliant, stuck, IsVerdict}
@@ -53,7 +53,7 @@ module _ (c s : Behaviour) (p : Stand) where
           let z : _≡_ {A = ℕ} 0 1 = cc in omega arith)
 
   -- condition 1 fails exactly at a bad stand
-  pub fine-cause : (((n : ℕ) → message c s p n ≡ none) → (names c (p .client .0) ≡ []) × (Neither p ⊎ Both p)) → cause c s p ≡ 0
+  pub fine-cause : (((n : ℕ) → message c s p n ≡ none) → Ended c p) → cause c s p ≡ 0
   unfolding cause
   fine-cause f = go (empty (possible c s (p .client) (p .server))) refl
     where
@@ -61,11 +61,11 @@ module _ (c s : Behaviour) (p : Stand) where
       go false e = refl
       go true e = let h = f (none-yes e) in rw (h .0, even-of p (h .1))
 
-  pub cause-fine : cause c s p ≡ 0 → ((n : ℕ) → message c s p n ≡ none) → (names c (p .client .0) ≡ []) × (Neither p ⊎ Both p)
+  pub cause-fine : cause c s p ≡ 0 → ((n : ℕ) → message c s p n ≡ none) → Ended c p
   unfolding cause
   cause-fine e f = go (finished c (p .client .0)) (even p) refl refl (rw (none-no f) at e)
     where
-      go : (a b : Bool) → finished c (p .client .0) ≡ a → even p ≡ b → _≡_ {A = ℕ} (if a (if b 0 2) 1) 0 → (names c (p .client .0) ≡ []) × (Neither p ⊎ Both p)
+      go : (a b : Bool) → finished c (p .client .0) ≡ a → even p ≡ b → _≡_ {A = ℕ} (if a (if b 0 2) 1) 0 → Ended c p
       go true true g h e = (empty-nil (names c (p .client .0)) g, even-yes (p .clientpoint) (p .serverpoint) h)
       go true false g h e = absurd (omega arith)
       go false b g h e = absurd (omega arith)

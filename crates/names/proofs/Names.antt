@@ -2,7 +2,7 @@
 use mathlib.Core.Path.{_≡_}
 use mathlib.Core.List.{List}
 use mathlib.Core.Bool.{true, false, or-false, and-false}
-use Prim.Native.Nat.{ℕ, zero, suc, _+_, _*_, _-_, _<_, _≤_, _^_}
+use Prim.Native.Nat.{ℕ, zero, suc, _+_, _*_, _-_, _<_, _≤_, _^_, _/_}
 use native.Mathlib.Numerals.{sub-one}
 use native.Mathlib.Omega.{arith}
 use borrow.Author.Tests.{le-leb, lt-leb}
@@ -21,30 +21,20 @@ module _ (c : ℕ) where
   pub neither : c < 97 → c < 48 → false ≡ isNameByte c
   neither h l = simp (lt-leb 97 c h, lt-leb 48 c l)
 
--- what a name's beginning is below where k bytes more may follow, of eight
+-- what a name's beginning is below where k bytes more may follow
 unfoldable pub room : ℕ → ℕ
 room zero = 2 ^ 64
-room (suc zero) = 2 ^ 56
-room (suc (suc zero)) = 2 ^ 48
-room (suc (suc (suc zero))) = 2 ^ 40
-room (suc (suc (suc (suc zero)))) = 2 ^ 32
-room (suc (suc (suc (suc (suc zero))))) = 2 ^ 24
-room (suc (suc (suc (suc (suc (suc zero)))))) = 2 ^ 16
-room (suc (suc (suc (suc (suc (suc (suc zero))))))) = 2 ^ 8
-room (suc (suc (suc (suc (suc (suc (suc (suc k)))))))) = 1
+room (suc k) = room k / 256
 
-pub room-more : (k v d : ℕ) → 0 < k → k ≤ 8 → v < room k → d < 256 → (v * 256 + d < room (k - 1)) × (v * 256 + d < 2 ^ 64)
+pub room-all : (k : ℕ) → room k ≤ 2 ^ 64
 unfolding room
-room-more zero v d p q h e = omega arith
-room-more (suc zero) v d p q h e = omega arith
-room-more (suc (suc zero)) v d p q h e = omega arith
-room-more (suc (suc (suc zero))) v d p q h e = omega arith
-room-more (suc (suc (suc (suc zero)))) v d p q h e = omega arith
-room-more (suc (suc (suc (suc (suc zero))))) v d p q h e = omega arith
-room-more (suc (suc (suc (suc (suc (suc zero)))))) v d p q h e = omega arith
-room-more (suc (suc (suc (suc (suc (suc (suc zero))))))) v d p q h e = omega arith
-room-more (suc (suc (suc (suc (suc (suc (suc (suc zero)))))))) v d p q h e = omega arith
-room-more (suc (suc (suc (suc (suc (suc (suc (suc (suc k))))))))) v d p q h e = omega arith
+room-all zero = omega arith
+room-all (suc k) = omega (arith, room-all k)
+
+pub room-more : (k v d : ℕ) → 0 < k → v < room k → d < 256 → v * 256 + d < room (k - 1)
+unfolding room
+room-more zero v d p h e = absurd (omega arith)
+room-more (suc k) v d p h e = rw sub-one (omega arith)
 
 module _ (s : List ℕ) (i v : ℕ) where
   pub name-done : (k : ℕ) → k ≤ 0 → length s ≤ i → v ≡ name k v (drop i s)

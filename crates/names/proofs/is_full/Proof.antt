@@ -1,3 +1,4 @@
+-- `names::is_full` meets its contract. The loop's invariant: the bytes that are left decide.
 use mathlib.Core.Path.{_≡_, sym, _∙_}
 use borrow.Author.Needs.{needs}
 use Rattle.names.specs.Names.{full}

@@ -1,3 +1,4 @@
+-- `names::is_name` meets its contract. The loop's invariant: what is left of the number, without its zeros behind, decides.
 use mathlib.Core.Path.{_≡_, refl, sym, _∙_}
 use borrow.Author.Needs.{needs}
 use Rattle.names.specs.Names.{isName, padded}

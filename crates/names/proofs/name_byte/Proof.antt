@@ -1,3 +1,4 @@
+-- `names::name_byte` meets its contract.
 use Rattle.names.proofs.Names.{letter, digit, neither}
 use Rattle.names.proofs.name_byte.Statement.{statement}
 use Rattle.names.proofs.name_byte.Tie as tie
