@@ -227,8 +227,8 @@ static void hub_sides(uint64_t *random, struct side *client, struct side *server
     }
 }
 
-/* A side and its dual that go forward to a finish, the start marked on both, other marks each for itself: after a
- * rollback the sides may stand apart, and few names let them go on all the same. */
+/* A side and its dual that go forward to a finish, marks each for itself, the start's more often: after a rollback
+ * the sides may stand apart, and few names let them go on all the same. */
 static void marks_apart(uint64_t *random, struct side *client, struct side *server, int names)
 {
     int states = 3 + gen_below(random, STATES - 2);
@@ -244,10 +244,10 @@ static void marks_apart(uint64_t *random, struct side *client, struct side *serv
     }
     dual(client, server);
     for (int state = 0; state + 1 < states; state++) {
-        client->marked[state] = state == 0 ? chance(random, 90) : chance(random, 30);
-        server->marked[state] = state == 0 ? chance(random, 90) : chance(random, 30);
+        client->marked[state] = chance(random, state == 0 ? 70 : 30);
+        server->marked[state] = chance(random, state == 0 ? 70 : 30);
     }
-    if (chance(random, 50))
+    if (chance(random, 75))
         for (int state = 0; state + 1 < states; state++)
             for (int name = 0; name < names; name++)
                 if (!client->has[state][name]) {
@@ -439,6 +439,7 @@ void gen_sound_pair(uint64_t *random, int kind, struct gen_pair *pair)
     switch (kind) {
     case 0:
         names = 1 + gen_below(random, 2);
+        finished = 40;
         random_side(random, &client, 1 + gen_below(random, 3), names, finished, dense, marks, one_sign ? '?' : 0);
         random_side(random, &server, 1 + gen_below(random, 3), names, finished, dense, gen_below(random, 101),
                     one_sign ? '!' : 0);
@@ -486,9 +487,9 @@ void gen_sound_pair(uint64_t *random, int kind, struct gen_pair *pair)
             change(random, chance(random, 50) ? &client : &server, names);
         break;
     case 8:
-        names = 5;
+        names = 6;
         long_sides(random, &client, &server);
-        if (chance(random, 30))
+        for (int times = gen_below(random, 5); times > 1; times--)
             change(random, chance(random, 50) ? &client : &server, names);
         break;
     case 10:
@@ -501,7 +502,7 @@ void gen_sound_pair(uint64_t *random, int kind, struct gen_pair *pair)
         break;
     default: /* ranks up to 191: names of unreachable states count */
         names = 150 + gen_below(random, 43);
-        random_side(random, &client, 1 + gen_below(random, 4), 2, finished, 60, marks, '?');
+        random_side(random, &client, 1 + gen_below(random, 4), 2, finished, 100, marks, '?');
         random_side(random, &server, 1 + gen_below(random, 4), 2, finished, 60, marks, '!');
         client.states = server.states = STATES;
         for (int name = 2; name < names; name++) {

@@ -13,4 +13,7 @@ bool second_compliant(const struct plain_behaviour *client, const struct plain_b
 int second_shortest(const struct plain_behaviour *client, const struct plain_behaviour *server, int limit, uint8_t *run,
                     int *cause);
 
+/* Refusal 13 by reading 11's list instead of by writing and reading back. */
+bool second_sound(const struct plain_behaviour *behaviour);
+
 #endif

@@ -16,7 +16,7 @@ static struct {
     long pairs[GEN_KINDS], compliant[GEN_KINDS], stuck[GEN_KINDS][3];
     long length[BUCKETS], rollbacks[4], fixpoints, short_runs, short_bad, over_7000, rank_over_127;
     int most_stands, longest;
-    long calls[18], granted_messages, granted_rollbacks;
+    long spoilt[2], calls[18], granted_messages, granted_rollbacks;
 } seen;
 
 static uint64_t current;
@@ -146,8 +146,9 @@ static void walk(uint64_t *random, const struct gen_pair *pair, const struct pla
                  const struct plain_behaviour *server)
 {
     struct plain_stand stand = plain_start();
-    seen.calls[plain_open(client, server, &stand).number]++;
-    for (int k = 0; k < 40; k++) {
+    int opened = plain_open(client, server, &stand).number;
+    seen.calls[opened]++;
+    for (int k = 0; k < (opened == 13 ? 3 : 40); k++) {
         uint8_t name[16];
         struct plain_stand before = stand;
         struct plain_refusal refused;
@@ -169,6 +170,52 @@ static void walk(uint64_t *random, const struct gen_pair *pair, const struct pla
         if (refused.number == 15)
             stand = plain_start();
     }
+}
+
+/* A sound value with one or two places changed: both ways of telling soundness agree on it. */
+static void spoil(uint64_t *random, struct plain_behaviour value)
+{
+    static const char signs[] = {0, '?', '!', 'x'};
+    for (int times = 1 + gen_below(random, 2); times > 0; times--) {
+        int state = gen_below(random, PLAIN_STATES);
+        int place = gen_below(random, 4) && value.count > 0 && value.count <= PLAIN_LINES ? gen_below(random, value.count)
+                                                                                           : gen_below(random, PLAIN_LINES);
+        struct plain_message *message = &value.message[place];
+        switch (gen_below(random, 9)) {
+        case 0:
+            value.states += gen_below(random, 5) - 2;
+            break;
+        case 1:
+            value.count += gen_below(random, 5) - 2;
+            break;
+        case 2:
+            value.marked[state] = (char)gen_below(random, 3);
+            break;
+        case 3:
+            value.sign[state] = signs[gen_below(random, 4)];
+            break;
+        case 4:
+            message->from = gen_below(random, 12) - 1;
+            break;
+        case 5:
+            message->to = gen_below(random, 12) - 1;
+            break;
+        case 6:
+            message->name[gen_below(random, PLAIN_NAME + 1)] = "a0zA\0\0\"\n"[gen_below(random, 8)];
+            break;
+        case 7: { /* two places exchanged */
+            struct plain_message keep = *message, *other = &value.message[gen_below(random, PLAIN_LINES)];
+            *message = *other;
+            *other = keep;
+            break;
+        }
+        default:
+            memset(message, 0, sizeof *message);
+        }
+    }
+    bool sound = plain_sound(&value);
+    seen.spoilt[sound]++;
+    expect(sound == second_sound(&value), "soundness by the list");
 }
 
 static void must(long count, const char *what)
@@ -201,8 +248,7 @@ static void report(void)
     for (int i = 0; i < BUCKETS; i++) {
         printf("  up to %d: %ld", bucket_end[i], seen.length[i]);
         snprintf(what, sizeof what, "length up to %d", bucket_end[i]);
-        if (i < BUCKETS - 1)
-            must(seen.length[i], what);
+        must(seen.length[i], what);
     }
     printf("\nlongest run %d, most stands %d, pairs with over 7,000 stands %ld\n", seen.longest, seen.most_stands,
            seen.over_7000);
@@ -214,11 +260,14 @@ static void report(void)
     must(seen.rank_over_127, "rank over 127");
     printf("greatest relation compared on %ld pairs; all runs up to length 6 tried on %ld (%ld of them end badly after a step)\n",
            seen.fixpoints, seen.short_runs, seen.short_bad);
+    printf("values changed: %ld no longer sound (13), %ld sound all the same\n", seen.spoilt[0], seen.spoilt[1]);
+    must(seen.spoilt[0], "values not sound");
+    must(seen.spoilt[1], "values sound all the same");
     printf("session calls granted: messages %ld, rollbacks %ld; refused:", seen.granted_messages, seen.granted_rollbacks);
     for (int number = 13; number <= 17; number++)
         printf("  %d: %ld", number, seen.calls[number]);
     printf("\n");
-    for (int number = 14; number <= 17; number++)
+    for (int number = 13; number <= 17; number++)
         must(seen.calls[number], "a session refusal");
     printf("checks that failed: %ld\n", failures);
 }
@@ -235,12 +284,13 @@ int main(int count, char **arguments)
         bool client_taken = read_text(&pair.client, &client), server_taken = read_text(&pair.server, &server);
         expect(client_taken || pair.client_damages > 0, "an undamaged client is taken");
         expect(server_taken || pair.server_damages > 0, "an undamaged server is taken");
-        if (client_taken && server_taken) {
-            uint64_t random = current;
-            bool damaged = pair.client_damages + pair.server_damages > 0;
+        bool damaged = pair.client_damages + pair.server_damages > 0;
+        if (client_taken && server_taken)
             judge(&client, &server, damaged ? 1 : pair.kind, current % 50 == 0);
-            walk(&random, &pair, &client, &server);
-        }
+        uint64_t random = current;
+        walk(&random, &pair, &client, &server);
+        for (int times = 0; client_taken && times < 5; times++)
+            spoil(&random, client);
     }
     report();
     return failures != 0;
