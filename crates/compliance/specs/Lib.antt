@@ -1,7 +1,8 @@
+pub mod Kinds
 pub mod Labels
 pub mod Order
 pub mod SoundStand
 pub mod Kept
 pub mod Compliance
-pub mod Same
+pub mod NoBadRun
 pub mod OneJudgement

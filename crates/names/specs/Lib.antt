@@ -1,2 +1,7 @@
 pub mod If
 pub mod Names
+pub mod Places
+pub mod Tests
+pub mod Order
+pub mod Laws
+pub mod ByteOrder

@@ -1,6 +1,6 @@
 -- What a name is, and the number that stands for it.
 use mathlib.Core.List.{List, [], _∷_, _++_}
-use mathlib.Core.Bool.{Bool, true, false, _&&_, _||_}
+use mathlib.Core.Bool.{Bool, false, _&&_, _||_}
 use Prim.Native.Nat.{ℕ, zero, suc, _+_, _*_, _/_, _%_}
 use lib.Dec.{leb, eqb}
 use Rattle.names.specs.If.{if}

@@ -4,3 +4,5 @@ pub mod Rank
 pub mod Front
 pub mod Jump
 pub mod Compute
+pub mod Update
+pub mod Grown

@@ -1,0 +1,8 @@
+pub mod Calls
+pub mod Side
+pub mod Point
+pub mod Demand
+pub mod Determined
+pub mod Played
+pub mod Meets
+pub mod Shams

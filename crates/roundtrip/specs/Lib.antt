@@ -1,0 +1,12 @@
+pub mod Bools
+pub mod Names
+pub mod Numbers
+pub mod Lines
+pub mod AddAll
+pub mod Rebuild
+pub mod Sorted
+pub mod Fair
+pub mod RoundTrip
+pub mod ReadValid
+pub mod Soundness
+pub mod Theorems

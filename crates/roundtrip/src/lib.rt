@@ -1,0 +1,1 @@
+// The round trip of the description file: laws only, no code.

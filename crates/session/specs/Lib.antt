@@ -1,0 +1,7 @@
+pub mod Answers
+pub mod Opening
+pub mod Sides
+pub mod Watched
+pub mod Steps
+pub mod Range
+pub mod Demand3

@@ -1,0 +1,5 @@
+pub mod Spelling
+pub mod Text
+pub mod Written
+pub mod Putting
+pub mod Lengths

@@ -1,0 +1,32 @@
+-- What `write` answers and leaves in the lent buffer.
+use mathlib.Core.List.{List, _++_}
+use mathlib.Core.Bool.{Bool, _&&_}
+use Prim.Native.Nat.{ℕ}
+use lib.Dec.{leb}
+use lib.ListN.{length, drop}
+use Rattle.names.specs.If.{if}
+use Rattle.behaviour.specs.declared.Behaviour.{Behaviour}
+use Rattle.behaviour.specs.declared.Refusal.{Refusal}
+use Rattle.behaviour.specs.Sound.{sound}
+use Rattle.writer.specs.declared.Written.{Written}
+use Rattle.writer.specs.declared.Written.the-variants.{Bytes, Refused}
+use Rattle.writer.specs.Text.{text}
+
+-- 12 "text or run longer than the lent buffer", place 0
+abbrev pub tooLong : Refusal
+tooLong = record { number = 12; place = 0 }
+
+-- 13 "a behaviour value that no accepted file gives", place 0
+abbrev pub unsound : Refusal
+unsound = record { number = 13; place = 0 }
+
+abbrev pub room : List ℕ → List ℕ → Bool
+room w out = leb (length w) (length out)
+
+-- "Calls on values: 13, .. then the rest": the text's length, or the refusal
+abbrev pub written : Behaviour → List ℕ → Written
+written b out = if (sound b) (if (room (text b) out) (Bytes (length (text b))) (Refused tooLong)) (Refused unsound)
+
+-- "No refusal writes to a lent buffer"; else the text stands first, and the bytes after it stay
+abbrev pub left : Behaviour → List ℕ → List ℕ
+left b out = if (sound b && room (text b) out) (text b ++ drop (length (text b)) out) out
