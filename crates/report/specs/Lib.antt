@@ -4,3 +4,4 @@ pub mod Reports
 pub mod OneOutput
 pub mod Examples
 pub mod Followed
+pub mod Listed
