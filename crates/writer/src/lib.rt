@@ -7,12 +7,12 @@ ghost use Rattle.names.specs.Names.{nameText};
 ghost use Rattle.behaviour.specs.Limits.{mostLines};
 ghost use Rattle.writer.specs.Putting.{Short, Put};
 ghost use Rattle.writer.specs.Spelling.{decimalOf, tens, labelText, opening, closing, lineText, headText};
+use tokens::Label;
+use tokens::Line;
 use behaviour::Message;
 use behaviour::Messages;
 use behaviour::PerState;
 use behaviour::Refusal;
-use tokens::Label;
-use tokens::Line;
 
 // The number of bytes written, or the refusal.
 pub enum Written {
