@@ -6,3 +6,4 @@ pub mod Examples
 pub mod Followed
 pub mod Listed
 pub mod Judges
+pub mod Within
