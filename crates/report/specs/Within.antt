@@ -22,5 +22,5 @@ told-within text out e r n t q = go (leb (length text) (length out)) (sym q ∙ 
     go false p l = absurd (let z : _≡_ {A = ℕ} 0 1 = cc in omega arith)
 
 -- what `&e[..n]` asks
-pub within : (f g out e : List ℕ) (r : Reported) (n : ℕ) → Reports f g out r e → r ≡ Bytes n → (n ≤ length e) × (n ≡ length (take n e))
-within f g out e r n h q = let w = told-within (h .text) out e r n (h .told) q in (w, sym (length-take-le n e w))
+pub within : {f g out e : List ℕ} {r : Reported} {n : ℕ} → Reports f g out r e → r ≡ Bytes n → (n ≤ length e) × (n ≡ length (take n e))
+within {out = out} {e = e} {r = r} {n = n} h q = let w = told-within (h .text) out e r n (h .told) q in (w, sym (length-take-le n e w))
