@@ -112,4 +112,27 @@ returns-4 : tie.Need-returns-4 Inv-loop μ-loop
 returns-4 c = c .finished .ensures ∙ lines-done _ _ _ _ _ (c .before .before .loop-test .left) (c .before .if2 .left) ∙ sym (c .before .before .before .loop .inv .0)
 
 pub read-lines-spec : {M : Type 1} → statement M
-read-lines-spec = tie.close (tie.spec Inv-loop μ-loop nothing-requires loop-holds read-line-requires enum-known-l enum-told refused-requires returns refusal-of-requires refused-requires-2 returns-2 added-requires add-p sub-t loop-less loop-again refused-requires-3 returns-3 finished-requires returns-4)
+read-lines-spec =
+    tie.close
+    (tie.spec
+    Inv-loop
+    μ-loop
+    nothing-requires
+    loop-holds
+    read-line-requires
+    enum-known-l
+    enum-told
+    refused-requires
+    returns
+    refusal-of-requires
+    refused-requires-2
+    returns-2
+    added-requires
+    add-p
+    sub-t
+    loop-less
+    loop-again
+    refused-requires-3
+    returns-3
+    finished-requires
+    returns-4)

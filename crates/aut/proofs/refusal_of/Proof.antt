@@ -77,4 +77,22 @@ returns-8 : tie.Need-returns-8
 returns-8 c = rw (by-label (c .before .before), c .enum-told2 .given .1)
 
 pub refusal-of-spec : {M : Type 1} → statement M
-refusal-of-spec = tie.close (tie.spec cast-states returns returns-2 enum-told returns-3 element-copy-out-if4 returns-4 enum-known-label check-message-requires enum-known-label-2 check-message-requires-2 enum-told-2 returns-5 returns-6 returns-7 returns-8)
+refusal-of-spec =
+    tie.close
+    (tie.spec
+    cast-states
+    returns
+    returns-2
+    enum-told
+    returns-3
+    element-copy-out-if4
+    returns-4
+    enum-known-label
+    check-message-requires
+    enum-known-label-2
+    check-message-requires-2
+    enum-told-2
+    returns-5
+    returns-6
+    returns-7
+    returns-8)
