@@ -59,7 +59,7 @@ pub record Says (b : Behaviour) (t : Bool) (n f g : ℕ) : Type 0 where
   pub new-name : has f n (messages b) ≡ false
 
 -- 6 is not met
-low : (b : Behaviour) (l : Line) → check b l ≡ 0
+pub low : (b : Behaviour) (l : Line) → check b l ≡ 0
     → (l .from < b .states) × (l .to < b .states) × (checkLabel b (l .from) (l .to) (l .label) ≡ 0)
 unfolding check
 low b l e = go (ltb (l .from) (b .states)) (ltb (l .to) (b .states)) refl refl e

@@ -10,8 +10,9 @@ use Rattle.tokens.specs.Seen.{linedOf}
 use Rattle.behaviour.specs.declared.Behaviour.{Behaviour}
 use Rattle.behaviour.specs.Limits.{mostStates, mostLines}
 use Rattle.aut.specs.Adding.{bare}
+use Rattle.aut.specs.Accepting.{low}
 use Rattle.aut.specs.File.{lines}
-use Rattle.aut.proofs.Reading.{lines-short, lines-bad, lines-more, lines-extra, lines-done, add-keeps, check-low}
+use Rattle.aut.proofs.Reading.{lines-short, lines-bad, lines-more, lines-extra, lines-done, add-keeps}
 use Rattle.aut.proofs.read_lines.Statement.{statement}
 use Rattle.aut.proofs.read_lines.Tie as tie
 
@@ -74,7 +75,7 @@ added-requires : tie.Need-added-requires Inv-loop μ-loop
 added-requires c κs =
     let b = c .before .before .before .before .before .before .before .loop .b in
     let l = c .before .before .before .l .given .0 .0 in
-    let f = check-low b l (sym (c .before .refusal-of .ensures) ∙ c .if1 .left) in
+    let f = low b l (sym (c .before .refusal-of .ensures) ∙ c .if1 .left) in
     omega arith
 
 add-p : tie.Need-add-p Inv-loop μ-loop

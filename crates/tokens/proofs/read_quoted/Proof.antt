@@ -7,7 +7,7 @@ use lib.ListN.{drop}
 use Rattle.tokens.specs.declared.Label.{Label}
 use Rattle.tokens.specs.declared.Step.the-variants as step
 use Rattle.tokens.specs.Parse.{got, nothing}
-use Rattle.tokens.specs.Seen.{stepOf, textOf, Within, part}
+use Rattle.tokens.specs.Seen.{stepOf, closedOf, Within, part}
 use Rattle.tokens.specs.Tokens.{quoted, byte, text}
 use Rattle.tokens.proofs.Texts.{some-none, some-yes}
 use borrow.Author.Needs.{needs}
@@ -25,7 +25,7 @@ closed : (c : tie.After-to)
     text (drop f s) ≡ got (part f (c .to .given .0 .0) s) (drop (c .to .given .0 .0 + 1) s)
 closed c =
     sym (c .before .before .closing .ensures .0)
-    ∙ ap (textOf (c .before .before .before .before .before .before .before .before .args .s .now) (c .before .before .before .before .from .given .0 .0)) (c .to .given .1)
+    ∙ ap (closedOf (c .before .before .before .before .before .before .before .before .args .s .now) (c .before .before .before .before .from .given .0 .0)) (c .to .given .1)
 
 inside : (c : tie.After-to) → Within (c .before .before .before .before .before .before .before .before .args .s .now) (c .before .before .before .before .from .given .0 .0) (step.To (c .to .given .0 .0))
 inside c = subst (Within (c .before .before .before .before .before .before .before .before .args .s .now) (c .before .before .before .before .from .given .0 .0)) (c .to .given .1) (c .before .before .closing .ensures .1)
@@ -57,7 +57,7 @@ unfolding quoted
 returns-2 c =
     let s = c .before .before .before .before .before .before .before .before .args .s .now in
     let o = c .before .before .before .before in
-    rw (opened o, sym (c .before .before .closing .ensures .0) ∙ ap (textOf s (o .from .given .0 .0)) (c .enum-told2 .given .1))
+    rw (opened o, sym (c .before .before .closing .ensures .0) ∙ ap (closedOf s (o .from .given .0 .0)) (c .enum-told2 .given .1))
 
 returns-3 : tie.Need-returns-3
 unfolding quoted
