@@ -1,2 +1,5 @@
 pub mod Puts
 pub mod Digits
+pub mod Onward
+pub mod States
+pub mod Telling
