@@ -94,7 +94,7 @@ module _ (c s : Behaviour) (sounds : BothSound c s) where
   good-next z y rollback g e =
       let r = rolled-step z y g e in
       one-more z y 255 g (by-255 (z .stand) (y .stand) r)
-          (rollback-within c s (sized c (sounds .client)) (sized s (sounds .server)) (z .stand) (y .stand) (g .within) r)
+      (rollback-within c s (sized c (sounds .client)) (sized s (sounds .server)) (z .stand) (y .stand) (g .within) r)
 
   -- no run reaches a bad stand
   module _ (safe : (w : List ℕ) → runs.ToBad (pair c s) w → ⊥) where

@@ -3,3 +3,4 @@ pub mod Digits
 pub mod Onward
 pub mod States
 pub mod Telling
+pub mod Whole

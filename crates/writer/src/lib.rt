@@ -10,8 +10,6 @@ ghost use Rattle.writer.specs.Putting.{Short, Put};
 ghost use Rattle.writer.specs.Spelling.{decimalOf, tens, labelText, opening, closing, lineText, headText};
 ghost use Rattle.writer.specs.Text.{messageLine, markLine, messageLines, afterState, linesFrom, linesText, lineCount, text};
 ghost use Rattle.writer.specs.Written.{written, left};
-use tokens::Label;
-use tokens::Line;
 use behaviour::Behaviour;
 use behaviour::Message;
 use behaviour::Messages;
@@ -22,6 +20,8 @@ use behaviour::is_sound;
 use behaviour::marked_count;
 use behaviour::refuse;
 use behaviour::wide;
+use tokens::Label;
+use tokens::Line;
 
 // The number of bytes written, or the refusal.
 pub enum Written {
@@ -160,7 +160,15 @@ fn put_mark(buf: &mut [u8], at: usize, k: usize, m: u8) -> usize
     if m != 1 {
         return at;
     }
-    put_line(buf, at, Line { from: k, label: Label::Mark, to: k })
+    put_line(
+        buf,
+        at,
+        Line {
+            from: k,
+            label: Label::Mark,
+            to: k,
+        },
+    )
 }
 
 // The line of the message `m` at a state of the sign `g`.
@@ -171,9 +179,25 @@ fn put_message(buf: &mut [u8], at: usize, m: Message, g: u8) -> usize
     let from = wide(m.from);
     let to = wide(m.to);
     if g == 1 {
-        return put_line(buf, at, Line { from, label: Label::Take(m.name), to });
+        return put_line(
+            buf,
+            at,
+            Line {
+                from,
+                label: Label::Take(m.name),
+                to,
+            },
+        );
     }
-    put_line(buf, at, Line { from, label: Label::Send(m.name), to })
+    put_line(
+        buf,
+        at,
+        Line {
+            from,
+            label: Label::Send(m.name),
+            to,
+        },
+    )
 }
 
 // A place of the text, and the next message.
@@ -183,7 +207,15 @@ struct Reached {
 }
 
 // The lines of the messages of the state `k` that stand first among the `n` messages from `i` on.
-fn put_messages(buf: &mut [u8], at: usize, a: Messages, n: usize, i: usize, k: usize, g: u8) -> Reached
+fn put_messages(
+    buf: &mut [u8],
+    at: usize,
+    a: Messages,
+    n: usize,
+    i: usize,
+    k: usize,
+    g: u8,
+) -> Reached
     requires { ⌜ n ≤ mostLines ⌝ }
     requires { ⌜ i ≤ n ⌝ }
     requires { ⌜ Short at (linesText (messageLines k g (take (n - i) (drop i a)))) ⌝ }
@@ -205,7 +237,14 @@ fn put_messages(buf: &mut [u8], at: usize, a: Messages, n: usize, i: usize, k: u
 }
 
 // The lines by state: the mark first, then the messages.
-fn put_lines(buf: &mut [u8], at: usize, marks: PerState, signs: PerState, a: Messages, n: usize) -> usize
+fn put_lines(
+    buf: &mut [u8],
+    at: usize,
+    marks: PerState,
+    signs: PerState,
+    a: Messages,
+    n: usize,
+) -> usize
     requires { ⌜ n ≤ mostLines ⌝ }
     requires { ⌜ Short at (linesText (linesFrom 0 marks signs (take n a))) ⌝ }
     ensures { λ r. ⌜ Put (now (buf .entry)) at (linesText (linesFrom 0 marks signs (take n a))) r (now (buf .exit)) ⌝ }

@@ -46,7 +46,7 @@ put-name-put-name-requires : (t : ℕ) → put-name-lts.Need-put-name-requires (
   put-reads.Asked,
   put-reads.Learnt,
 ) (put-name-at t) put-name.Post
-put-name-put-name-requires t c κs = 
+put-name-put-name-requires t c κs =
     let z : c .before .before .before .args .k ≡ 0 → ⊥ = c .before .if1 .left in let e = c .before .before .before .pre .0 in
     (omega arith, name-first (c .before .before .before .args .k) (c .before .before .before .args .n) (omega arith) (c .before .before .before .pre .1))
 
