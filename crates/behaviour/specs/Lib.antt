@@ -2,3 +2,4 @@ pub mod Limits
 pub mod Refusals
 pub mod Pick
 pub mod Sound
+pub mod SoundLaws

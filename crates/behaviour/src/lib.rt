@@ -1,5 +1,14 @@
 // The behaviour value: a description's states, marks and messages, sorted; and the refusal.
 ghost use mathlib.Core.Path.{_≡_};
+ghost use mathlib.Core.List.{List};
+ghost use mathlib.Core.Bool.{_&&_};
+ghost use Prim.Native.Nat.{_≤_, _<_};
+ghost use lib.Dec.{eqb};
+ghost use lib.ListN.{length, getD, take, drop};
+ghost use Rattle.names.specs.If.{if};
+ghost use Rattle.behaviour.specs.declared.Message.{Message};
+ghost use Rattle.behaviour.specs.Refusals.{refusal};
+ghost use Rattle.behaviour.specs.Sound.{before, between, allBetween, sorted, blank, allBlank, speaks, signed, markable, settled, total, sound};
 
 // S is at most this.
 pub const STATES: usize = 10;
@@ -41,4 +50,241 @@ pub fn wide(x: u8) -> usize
     ensures { λ r. ⌜ r ≡ x ⌝ }
 {
     x as usize
+}
+
+pub fn refuse(number: u8, place: u16) -> Refusal
+    ensures { λ r. ⌜ r ≡ refusal number place ⌝ }
+{
+    Refusal { number, place }
+}
+
+// How many places of a value are used: all of them if the count is past the last.
+pub fn used(count: u8) -> usize
+    ensures bounded { λ r. ⌜ r ≤ 96 ⌝ }
+    ensures same { λ r. ⌜ ((a : List Message) → length a ≡ 96 → take r a ≡ take count a) ⌝ }
+{
+    let n = wide(count);
+    if LINES < n {
+        return LINES;
+    }
+    n
+}
+
+// The entry of the state x; 0 past the last state.
+pub fn entry(a: PerState, x: u8) -> u8
+    ensures { λ r. ⌜ r ≡ getD a x 0 ⌝ }
+{
+    let i = wide(x);
+    if i < STATES {
+        return a[i];
+    }
+    0
+}
+
+// By state, then by name.
+pub fn comes_before(a: Message, b: Message) -> bool
+    ensures { λ r. ⌜ r ≡ before a b ⌝ }
+{
+    if a.from < b.from {
+        return true;
+    }
+    if a.from != b.from {
+        return false;
+    }
+    a.name < b.name
+}
+
+fn is_between(m: Message, states: u8) -> bool
+    ensures { λ r. ⌜ r ≡ between states m ⌝ }
+{
+    if states <= m.from {
+        return false;
+    }
+    if states <= m.to {
+        return false;
+    }
+    let n = m.name;
+    names::is_name(n)
+}
+
+fn all_between(a: Messages, n: usize, states: u8) -> bool
+    requires { ⌜ n ≤ 96 ⌝ }
+    ensures { λ r. ⌜ r ≡ allBetween states (take n a) ⌝ }
+{
+    let mut i = 0;
+    while i < n {
+        let m = a[i];
+        if !is_between(m, states) {
+            return false;
+        }
+        i += 1;
+    }
+    true
+}
+
+fn is_sorted(a: Messages, n: usize) -> bool
+    requires { ⌜ n ≤ 96 ⌝ }
+    ensures { λ r. ⌜ r ≡ sorted (take n a) ⌝ }
+{
+    let mut i = 0;
+    let mut j = 1;
+    while j < n {
+        let x = a[i];
+        let m = a[j];
+        if !comes_before(x, m) {
+            return false;
+        }
+        i += 1;
+        j += 1;
+    }
+    true
+}
+
+fn is_blank(m: Message) -> bool
+    ensures { λ r. ⌜ r ≡ blank m ⌝ }
+{
+    if m.from != 0 {
+        return false;
+    }
+    if m.name != 0 {
+        return false;
+    }
+    m.to == 0
+}
+
+fn all_blank(a: Messages, n: usize) -> bool
+    ensures { λ r. ⌜ r ≡ allBlank (drop n a) ⌝ }
+{
+    let mut i = n;
+    while i < LINES {
+        let m = a[i];
+        if !is_blank(m) {
+            return false;
+        }
+        i += 1;
+    }
+    true
+}
+
+fn speaks_at(a: Messages, n: usize, x: u8) -> bool
+    requires { ⌜ n ≤ 96 ⌝ }
+    ensures { λ r. ⌜ r ≡ speaks x (take n a) ⌝ }
+{
+    let mut i = 0;
+    while i < n {
+        let m = a[i];
+        if m.from == x {
+            return true;
+        }
+        i += 1;
+    }
+    false
+}
+
+fn is_signed(speaking: bool, g: u8) -> bool
+    ensures { λ r. ⌜ r ≡ signed speaking g ⌝ }
+{
+    if speaking {
+        if g == 1 {
+            return true;
+        }
+        return g == 2;
+    }
+    g == 0
+}
+
+fn is_markable(m: u8, g: u8) -> bool
+    ensures { λ r. ⌜ r ≡ markable m g ⌝ }
+{
+    if m == 0 {
+        return true;
+    }
+    if m != 1 {
+        return false;
+    }
+    g != 0
+}
+
+// The state x, by its mark, its sign and the messages.
+fn is_state(m: u8, g: u8, a: Messages, n: usize, x: u8) -> bool
+    requires { ⌜ n ≤ 96 ⌝ }
+    ensures { λ r. ⌜ r ≡ (signed (speaks x (take n a)) g && markable m g) ⌝ }
+{
+    let speaking = speaks_at(a, n, x);
+    if !is_signed(speaking, g) {
+        return false;
+    }
+    is_markable(m, g)
+}
+
+fn is_settled(marks: PerState, signs: PerState, a: Messages, n: usize) -> bool
+    requires { ⌜ n ≤ 96 ⌝ }
+    ensures { λ r. ⌜ r ≡ settled 0 marks signs (take n a) ⌝ }
+{
+    let mut x: u8 = 0;
+    let mut i = 0;
+    while i < STATES {
+        let m = marks[i];
+        let g = signs[i];
+        if !is_state(m, g, a, n, x) {
+            return false;
+        }
+        x += 1;
+        i += 1;
+    }
+    true
+}
+
+fn one(m: u8) -> usize
+    ensures { λ r. ⌜ r ≡ if (eqb m 1) 1 0 ⌝ }
+{
+    if m == 1 {
+        return 1;
+    }
+    0
+}
+
+// How many states are marked.
+pub fn marked_count(marks: PerState) -> usize
+    ensures { λ r. ⌜ r ≡ total marks ⌝ }
+{
+    let mut n = 0;
+    let mut i = 0;
+    while i < STATES {
+        let m = marks[i];
+        let k = one(m);
+        n += k;
+        i += 1;
+    }
+    n
+}
+
+// Does some accepted file give the value?
+pub fn is_sound(b: Behaviour) -> bool
+    ensures { λ r. ⌜ r ≡ sound b ⌝ }
+{
+    let states = b.states;
+    if states < 1 {
+        return false;
+    }
+    if STATES < wide(states) {
+        return false;
+    }
+    let marks = b.marks;
+    let n = wide(b.count);
+    if LINES < n + marked_count(marks) {
+        return false;
+    }
+    let a = b.messages;
+    if !all_between(a, n, states) {
+        return false;
+    }
+    if !is_sorted(a, n) {
+        return false;
+    }
+    if !all_blank(a, n) {
+        return false;
+    }
+    let signs = b.signs;
+    is_settled(marks, signs, a, n)
 }

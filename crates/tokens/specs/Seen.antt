@@ -21,6 +21,11 @@ abbrev pub stepOf : List ℕ → Step → Got Nothing
 stepOf s (step.To n) = got nothing (drop n s)
 stepOf s step.Off = off
 
+-- the position is one of s, or its end
+abbrev pub stepIn : List ℕ → Step → Type 0
+stepIn s (step.To n) = n ≤ length s
+stepIn s step.Off = Unit {0}
+
 abbrev pub numOf : List ℕ → Num → Got ℕ
 numOf s (num.Is v n) = got v (drop n s)
 numOf s num.Off = off
@@ -46,6 +51,14 @@ abbrev pub linedOf : List ℕ → Lined → Got Line
 linedOf s (lined.Is l n) = got l (drop n s)
 linedOf s lined.Off = off
 
+abbrev pub linedIn : List ℕ → Lined → Type 0
+linedIn s (lined.Is l n) = n ≤ length s
+linedIn s lined.Off = Unit {0}
+
 abbrev pub headedOf : List ℕ → Headed → Got Head
 headedOf s (headed.Is h n) = got h (drop n s)
 headedOf s headed.Off = off
+
+abbrev pub headedIn : List ℕ → Headed → Type 0
+headedIn s (headed.Is h n) = n ≤ length s
+headedIn s headed.Off = Unit {0}

@@ -1,0 +1,5 @@
+pub mod RunText
+pub mod Output
+pub mod Reports
+pub mod OneOutput
+pub mod Examples

@@ -1,0 +1,5 @@
+mod Laws
+mod Digits
+mod Labels
+mod Texts
+mod Parts

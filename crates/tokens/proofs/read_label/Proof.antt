@@ -1,0 +1,72 @@
+-- `tokens::read_label` meets its contract.
+use mathlib.Core.Path.{sym, ap, _∙_}
+use Rattle.tokens.specs.Seen.{stepOf}
+use Rattle.tokens.proofs.Labels.{label-none, take-no, take-yes, send-no, send-yes, label-word, marked-end, marked-more}
+use borrow.Author.Needs.{needs}
+use Rattle.tokens.proofs.read_label.Statement.{statement}
+use Rattle.tokens.proofs.read_label.Tie as tie
+
+returns : tie.Need-returns
+returns c = label-none _ (c .if1 .taken)
+
+shared-slice-read-c : tie.Need-shared-slice-read-c
+shared-slice-read-c c = search needs
+
+number-of-requires : tie.Need-number-of-requires
+number-of-requires c κs = search needs
+
+returns-2 : tie.Need-returns-2
+returns-2 c = take-no _ _ (c .before .before .before .before .if1 .left) (c .before .before .if2 .taken) (c .before .number-of .ensures) (c .if3 .taken)
+
+returns-3 : tie.Need-returns-3
+returns-3 c = take-yes _ _ (c .before .before .before .before .if1 .left) (c .before .before .if2 .taken) (c .before .number-of .ensures) (c .if3 .left)
+
+number-of-requires-2 : tie.Need-number-of-requires-2
+number-of-requires-2 c κs = search needs
+
+returns-4 : tie.Need-returns-4
+returns-4 c = send-no _ _ (c .before .before .before .before .before .if1 .left) (c .before .before .if4 .taken) (c .before .number-of2 .ensures) (c .if5 .taken)
+
+returns-5 : tie.Need-returns-5
+returns-5 c = send-yes _ _ (c .before .before .before .before .before .if1 .left) (c .before .before .if4 .taken) (c .before .number-of2 .ensures) (c .if5 .left)
+
+slice-aggregate-literal : tie.Need-slice-aggregate-literal
+slice-aggregate-literal c = search needs
+
+literal-requires : tie.Need-literal-requires
+literal-requires c κs = search needs
+
+enum-known-n : tie.Need-enum-known-n
+enum-known-n c = search needs
+
+enum-told : tie.Need-enum-told
+enum-told c = search needs
+
+returns-6 : tie.Need-returns-6
+returns-6 c = label-word _ _ (c .before .before .before .before .before .before .before .if1 .left) (c .before .before .before .before .before .if2 .left) (c .before .before .before .before .if4 .left) (ap (stepOf _) (sym (c .enum-told .given .1)) ∙ c .before .before .literal .ensures)
+
+returns-7 : tie.Need-returns-7
+returns-7 c = marked-more _ _ (c .if6 .taken) ∙ label-word _ _ (c .before .before .before .before .before .before .before .before .before .if1 .left) (c .before .before .before .before .before .before .before .if2 .left) (c .before .before .before .before .before .before .if4 .left) (ap (stepOf _) (sym (c .before .before .n .given .1)) ∙ c .before .before .before .before .literal .ensures)
+
+returns-8 : tie.Need-returns-8
+returns-8 c = marked-end _ _ (c .if6 .left) ∙ label-word _ _ (c .before .before .before .before .before .before .before .before .before .if1 .left) (c .before .before .before .before .before .before .before .if2 .left) (c .before .before .before .before .before .before .if4 .left) (ap (stepOf _) (sym (c .before .before .n .given .1)) ∙ c .before .before .before .before .literal .ensures)
+
+pub read-label-spec : {M : Type 1} → statement M
+read-label-spec =
+    tie.close
+    (tie.spec
+    returns
+    shared-slice-read-c
+    number-of-requires
+    returns-2
+    returns-3
+    number-of-requires-2
+    returns-4
+    returns-5
+    slice-aggregate-literal
+    literal-requires
+    enum-known-n
+    enum-told
+    returns-6
+    returns-7
+    returns-8)
