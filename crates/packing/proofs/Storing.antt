@@ -8,9 +8,11 @@ use lib.ListN.{length, getD, set, take, drop, length-set, length-append, drop-of
 use lib.Seq.{sets, sets-eq, length-sets, set-comm}
 use Rattle.names.specs.Names.{nameBytes}
 use Rattle.names.specs.Places.{here}
+use Rattle.behaviour.specs.Limits.{mostStates, mostLines}
 use Rattle.behaviour.specs.declared.Message.{Message}
+use Rattle.behaviour.specs.declared.Behaviour.{Behaviour}
 use Rattle.behaviour.specs.Pick.{nil}
-use Rattle.packing.specs.Value.{messageBytes, bytesOf, packedMessage, packedMessages}
+use Rattle.packing.specs.Value.{messageBytes, valueBytes, bytesOf, packedMessage, packedMessages, packed}
 
 pub sets-append : (xs ys l : List ℕ) (i : ℕ) → sets l i (xs ++ ys) ≡ sets (sets l i xs) (i + length xs) ys
 sets-append [] ys l i = let e : i ≡ i + 0 = omega arith in ap (λ (k : ℕ). sets l k ys) e
@@ -98,3 +100,26 @@ pub next-message : (a : List Message) (out : List ℕ) (i p : ℕ) → i < lengt
 next-message a out i p h =
     rw (rest-messages a i h)
     (sets-append (packedMessage (getD a i nil)) (packedMessages (drop (i + 1) a)) out p ∙ rw (message-length (getD a i nil)))
+
+messages-length : (l : List Message) → length (packedMessages l) ≡ length l * messageBytes
+unfolding packedMessages
+messages-length [] = refl
+messages-length (m ∷ l) = rw length-append (omega (arith, message-length m, messages-length l))
+
+pub packed-length : (b : Behaviour) → length (b .marks) ≡ mostStates → length (b .signs) ≡ mostStates → length (b .messages) ≡ mostLines → length (packed b) ≡ valueBytes
+unfolding packed
+packed-length b m g s = simp (length-append, messages-length) (omega (arith, m, g, s))
+
+-- the whole value, part after part
+pub all-parts : (b : Behaviour) (out one two three : List ℕ) → length (b .marks) ≡ mostStates → length (b .signs) ≡ mostStates → length (b .messages) ≡ mostLines
+    → one ≡ sets (set (set out 0 (b .states)) 1 (b .count)) 2 (b .marks) → two ≡ sets one (2 + mostStates) (b .signs)
+    → three ≡ sets two (2 + 2 * mostStates) (packedMessages (b .messages)) → valueBytes ≤ length out
+    → three ≡ packed b ++ drop valueBytes out
+unfolding packed
+all-parts b out one two three m g s e f h l =
+    let w = b .signs ++ packedMessages (b .messages) in
+    let a : sets out 0 (packed b) ≡ three =
+        sets-append (b .marks) w (set (set out 0 (b .states)) 1 (b .count)) 2
+        ∙ rw (m, ← e) (sets-append (b .signs) (packedMessages (b .messages)) one (2 + mostStates) ∙ rw (g, ← f) (sym h)) in
+    let n : length (packed b) ≡ valueBytes = packed-length b m g s in
+    sym a ∙ (sets-eq (packed b) out 0 (omega arith) ∙ rw n)

@@ -1,54 +1,56 @@
+-- `packing::pack` meets its contract.
+use mathlib.Core.Path.{_≡_, refl, sym, ap, _∙_}
+use Prim.Native.Nat.{ℕ, _+_, _*_, _-_, _<_, _≤_}
+use native.Mathlib.Omega.{arith}
+use lib.ListN.{length, getD, take, drop, set, length-set}
+use borrow.Author.Tests.{le-leb, lt-leb}
+use Rattle.behaviour.specs.Limits.{mostStates, mostLines}
+use Rattle.packing.specs.Value.{valueBytes, left}
+use Rattle.packing.proofs.Storing.{all-parts}
 use borrow.Author.Needs.{needs}
 use Rattle.packing.proofs.pack.Statement.{statement}
 use Rattle.packing.proofs.pack.Tie as tie
-use Rattle.packing.proofs.pack.Reads as reads
-use Rattle.packing.proofs.pack.Lts as lts
-use Rattle.packing.proofs.put_messages.Reads as put-messages-reads
-use Rattle.packing.proofs.put_row.Reads as put-row-reads
 
--- src/lib.rt:84:9
 returns : tie.Need-returns
-returns c = ?
+unfolding left
+returns c = let e = lt-leb valueBytes _ (c .if1 .taken) in (sym e, rw e)
 
--- src/lib.rt:86:5
 slice-write-out : tie.Need-slice-write-out
 slice-write-out c = search needs
 
--- src/lib.rt:87:5
 slice-write-out-2 : tie.Need-slice-write-out-2
-slice-write-out-2 c = ?
+slice-write-out-2 c = simp length-set (omega (arith, c .if1 .left))
 
--- src/lib.rt:89:5
 put-row-requires : tie.Need-put-row-requires
-put-row-requires c κs = ?
+put-row-requires c κs = simp length-set (omega (arith, c .before .before .if1 .left))
 
--- src/lib.rt:91:25
 add-put-row : tie.Need-add-put-row
 add-put-row c = search needs
 
--- src/lib.rt:91:5
 put-row-requires-2 : tie.Need-put-row-requires-2
 put-row-requires-2 c κs = ?
 
--- src/lib.rt:93:37
 mul-put-messages : tie.Need-mul-put-messages
 mul-put-messages c = search needs
 
--- src/lib.rt:93:33
 add-put-messages : tie.Need-add-put-messages
 add-put-messages c = search needs
 
--- src/lib.rt:93:5
 put-messages-requires : tie.Need-put-messages-requires
 put-messages-requires c κs = ?
 
--- src/lib.rt:79:1
 same-length : tie.Need-same-length
 same-length c = ?
 
--- src/lib.rt:79:1
 returns-2 : tie.Need-returns-2
-returns-2 c = ?
+unfolding left
+returns-2 c = 
+    let a = c .before .before .before .before .before .before .before .before .before .before .before .before .before .before .before .before .before .args in
+    let e = le-leb valueBytes (length (a .out .now)) (c .before .before .before .before .before .before .before .before .before .before .before .before .before .before .before .if1 .left) in
+    let m : length (a .b .marks) ≡ mostStates = ? in
+    let g : length (a .b .signs) ≡ mostStates = ? in
+    let s : length (a .b .messages) ≡ mostLines = ? in
+    (sym e, rw e (all-parts (a .b) (a .out .now) _ _ _ m g s (c .before .before .before .before .before .before .before .before .before .before .before .before .put-row .ensures) (c .before .before .before .before .before .before .before .put-row2 .ensures) (c .before .before .put-messages .ensures) (c .before .before .before .before .before .before .before .before .before .before .before .before .before .before .before .if1 .left)))
 
 pub pack-spec : {M : Type 1} → statement M
 pack-spec =
