@@ -61,8 +61,14 @@ parts b e =
 pub whole : (b : Behaviour) → Parts b → sound b ≡ true
 unfolding sound
 whole b p =
-    rw (le-leb 1 (b .states) (p .some-state), le-leb (b .states) mostStates (p .most-states), le-leb (b .count + total (b .marks)) mostLines (p .most-lines),
-    p .between, p .sorted, p .blank) (p .settled)
+    rw (
+      le-leb 1 (b .states) (p .some-state),
+      le-leb (b .states) mostStates (p .most-states),
+      le-leb (b .count + total (b .marks)) mostLines (p .most-lines),
+      p .between,
+      p .sorted,
+      p .blank,
+    ) (p .settled)
 
 -- every used message: its states are below s, and its name is a name
 pub record Between (s : ℕ) (m : Message) : Type 0 where
