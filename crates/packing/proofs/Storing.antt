@@ -12,6 +12,8 @@ use Rattle.behaviour.specs.Limits.{mostStates, mostLines}
 use Rattle.behaviour.specs.declared.Message.{Message}
 use Rattle.behaviour.specs.declared.Behaviour.{Behaviour}
 use Rattle.behaviour.specs.Pick.{nil}
+use Rattle.behaviour.specs.SoundLaws.{Sized}
+use Rattle.packing.specs.Back.{message-length, packed-length}
 use Rattle.packing.specs.Value.{messageBytes, valueBytes, bytesOf, packedMessage, packedMessages, packed}
 
 pub sets-append : (xs ys l : List ℕ) (i : ℕ) → sets l i (xs ++ ys) ≡ sets (sets l i xs) (i + length xs) ys
@@ -79,14 +81,6 @@ rest-stored a out i at h =
 pub all-stored : {A : Type 0} (a : List A) (i : ℕ) → length a ≤ i → drop i a ≡ []
 all-stored a i h = drop-of-length-le a h
 
-bytes-length : (k n : ℕ) → length (bytesOf k n) ≡ k
-unfolding bytesOf
-bytes-length zero n = refl
-bytes-length (suc k) n = rw length-append (omega (arith, bytes-length k (n / 256)))
-
-pub message-length : (m : Message) → length (packedMessage m) ≡ messageBytes
-message-length m = omega (arith, bytes-length nameBytes (m .name))
-
 pub rest-messages : (a : List Message) (i : ℕ) → i < length a → packedMessages (drop i a) ≡ packedMessage (getD a i nil) ++ packedMessages (drop (i + 1) a)
 unfolding packedMessages
 rest-messages a i h = rw (here nil a i h)
@@ -101,25 +95,16 @@ next-message a out i p h =
     rw (rest-messages a i h)
     (sets-append (packedMessage (getD a i nil)) (packedMessages (drop (i + 1) a)) out p ∙ rw (message-length (getD a i nil)))
 
-messages-length : (l : List Message) → length (packedMessages l) ≡ length l * messageBytes
-unfolding packedMessages
-messages-length [] = refl
-messages-length (m ∷ l) = rw length-append (omega (arith, message-length m, messages-length l))
-
-pub packed-length : (b : Behaviour) → length (b .marks) ≡ mostStates → length (b .signs) ≡ mostStates → length (b .messages) ≡ mostLines → length (packed b) ≡ valueBytes
-unfolding packed
-packed-length b m g s = simp (length-append, messages-length) (omega (arith, m, g, s))
-
 -- the whole value, part after part
-pub all-parts : (b : Behaviour) (out one two three : List ℕ) → length (b .marks) ≡ mostStates → length (b .signs) ≡ mostStates → length (b .messages) ≡ mostLines
+pub all-parts : (b : Behaviour) (out one two three : List ℕ) → Sized b
     → one ≡ sets (set (set out 0 (b .states)) 1 (b .count)) 2 (b .marks) → two ≡ sets one (2 + mostStates) (b .signs)
     → three ≡ sets two (2 + 2 * mostStates) (packedMessages (b .messages)) → valueBytes ≤ length out
     → three ≡ packed b ++ drop valueBytes out
 unfolding packed
-all-parts b out one two three m g s e f h l =
+all-parts b out one two three z e f h l =
     let w = b .signs ++ packedMessages (b .messages) in
     let a : sets out 0 (packed b) ≡ three =
-        sets-append (b .marks) w (set (set out 0 (b .states)) 1 (b .count)) 2
-        ∙ rw (m, ← e) (sets-append (b .signs) (packedMessages (b .messages)) one (2 + mostStates) ∙ rw (g, ← f) (sym h)) in
-    let n : length (packed b) ≡ valueBytes = packed-length b m g s in
+    sets-append (b .marks) w (set (set out 0 (b .states)) 1 (b .count)) 2
+    ∙ rw (z .marks, ← e) (sets-append (b .signs) (packedMessages (b .messages)) one (2 + mostStates) ∙ rw (z .signs, ← f) (sym h)) in
+    let n : length (packed b) ≡ valueBytes = packed-length b z in
     sym a ∙ (sets-eq (packed b) out 0 (omega arith) ∙ rw n)

@@ -24,7 +24,7 @@ shared-slice-read-to : tie.Need-shared-slice-read-to
 shared-slice-read-to c = search needs
 
 returns : tie.Need-returns
-returns c = 
+returns c =
     let a = c .before .before .before .before .args in
     let e : a .at + 0 ≡ a .at = omega arith in
     rw (c .before .before .name-at .ensures, getD-drop (a .at) (a .s .now) 0 0, getD-drop (a .at) (a .s .now) 1 0, drop-drop 2 (a .at) (a .s .now), e)

@@ -39,11 +39,14 @@ loop-less : tie.Need-loop-less Inv-loop μ-loop
 loop-less c = omega arith
 
 loop-again : tie.Need-loop-again Inv-loop μ-loop
-loop-again c = 
+loop-again c =
     let l = c .before .before .loop in
-    let s = c .before .before .before .before .args .s .now in
-    (rw (c .message-at .ensures) (messages-more (l .a) s (l .i) (l .p) _ (c .before .loop-test .taken) (l .inv .1) (l .inv .0)),
-      length-set (l .a) (l .i) (c .message-at .result) ∙ l .inv .1, l .inv .2, omega (arith, l .inv .3))
+    let s = c .before .before .before .before .args .s .now in (
+      rw (c .message-at .ensures) (messages-more (l .a) s (l .i) (l .p) _ (c .before .loop-test .taken) (l .inv .1) (l .inv .0)),
+      length-set (l .a) (l .i) (c .message-at .result) ∙ l .inv .1,
+      l .inv .2,
+      omega (arith, l .inv .3),
+    )
 
 returns : tie.Need-returns Inv-loop μ-loop
 returns c = let l = c .before .loop in messages-done (l .a) _ (l .i) (l .p) _ (c .loop-test .left) (l .inv .1) (l .inv .0)

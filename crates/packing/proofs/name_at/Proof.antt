@@ -30,7 +30,7 @@ cast-v : tie.Need-cast-v Inv-loop μ-loop
 cast-v c = omega (arith, c .shared-slice-known .given (c .before .before .loop .i))
 
 add-v : tie.Need-add-v Inv-loop μ-loop
-add-v c = 
+add-v c =
     let l = c .before .before .loop in
     let d = getD (c .before .before .before .args .s .now) (l .i) 0 in
     let h : d < 256 = omega (arith, c .shared-slice-known .given (l .i)) in
@@ -46,7 +46,7 @@ loop-less : tie.Need-loop-less Inv-loop μ-loop
 loop-less c = omega arith
 
 loop-again : tie.Need-loop-again Inv-loop μ-loop
-loop-again c = 
+loop-again c =
     let l = c .before .before .loop in
     let s = c .before .before .before .args .s .now in
     let h : getD s (l .i) 0 < 256 = omega (arith, c .shared-slice-known .given (l .i)) in

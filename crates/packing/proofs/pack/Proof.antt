@@ -1,4 +1,5 @@
 -- `packing::pack` meets its contract.
+use Rattle.behaviour.proofs.Lengths.{sized}
 use mathlib.Core.Path.{_≡_, refl, sym, ap, _∙_}
 use Prim.Native.Nat.{ℕ, _+_, _*_, _-_, _<_, _≤_}
 use native.Mathlib.Omega.{arith}
@@ -28,7 +29,11 @@ add-put-row : tie.Need-add-put-row
 add-put-row c = search needs
 
 put-row-requires-2 : tie.Need-put-row-requires-2
-put-row-requires-2 c κs = ?
+put-row-requires-2 c κs =
+    let r = c .before .before .before .before .put-row in
+    let k : length (r .last .1 .0) ≡ length (c .before .before .before .before .before .before .before .before .before .args .out .now) = simp length-set at (r .kept .1 .0) in
+    let h : 2 + mostStates + mostStates ≤ length (r .last .1 .0) = omega (arith, c .before .before .before .before .before .before .before .if1 .left) in
+    h
 
 mul-put-messages : tie.Need-mul-put-messages
 mul-put-messages c = search needs
@@ -37,20 +42,29 @@ add-put-messages : tie.Need-add-put-messages
 add-put-messages c = search needs
 
 put-messages-requires : tie.Need-put-messages-requires
-put-messages-requires c κs = ?
+put-messages-requires c κs =
+    let q = c .before .before .before .before .put-row2 in
+    let r = c .before .before .before .before .before .before .before .before .before .put-row in
+    let k : length (r .last .1 .0) ≡ length (c .before .before .before .before .before .before .before .before .before .before .before .before .before .before .args .out .now) = simp length-set at (r .kept .1 .0) in
+    let j : length (q .last .1 .0) ≡ length (r .last .1 .0) = q .kept .1 .0 in
+    let h : valueBytes ≤ length (q .last .1 .0) = omega (arith, c .before .before .before .before .before .before .before .before .before .before .before .before .if1 .left) in
+    h
 
 same-length : tie.Need-same-length
-same-length c = ?
+same-length c =
+    let q = c .before .before .before .before .before .before .before .put-row2 in
+    let r = c .before .before .before .before .before .before .before .before .before .before .before .before .put-row in
+    let k : length (r .last .1 .0) ≡ length (c .before .before .before .before .before .before .before .before .before .before .before .before .before .before .before .before .before .args .out .now) = simp length-set at (r .kept .1 .0) in
+    let j : length (q .last .1 .0) ≡ length (r .last .1 .0) = q .kept .1 .0 in
+    c .before .before .put-messages .kept .1 .0 ∙ (j ∙ k)
 
 returns-2 : tie.Need-returns-2
 unfolding left
-returns-2 c = 
+returns-2 c =
     let a = c .before .before .before .before .before .before .before .before .before .before .before .before .before .before .before .before .before .args in
     let e = le-leb valueBytes (length (a .out .now)) (c .before .before .before .before .before .before .before .before .before .before .before .before .before .before .before .if1 .left) in
-    let m : length (a .b .marks) ≡ mostStates = ? in
-    let g : length (a .b .signs) ≡ mostStates = ? in
-    let s : length (a .b .messages) ≡ mostLines = ? in
-    (sym e, rw e (all-parts (a .b) (a .out .now) _ _ _ m g s (c .before .before .before .before .before .before .before .before .before .before .before .before .put-row .ensures) (c .before .before .before .before .before .before .before .put-row2 .ensures) (c .before .before .put-messages .ensures) (c .before .before .before .before .before .before .before .before .before .before .before .before .before .before .before .if1 .left)))
+    let z = sized (a .b) _ (c .before .before .before .before .before .before .before .before .before .before .before .before .before .before .before .before .before .good .0) in
+    (sym e, rw e (all-parts (a .b) (a .out .now) _ _ _ z (c .before .before .before .before .before .before .before .before .before .before .before .before .put-row .ensures) (c .before .before .before .before .before .before .before .put-row2 .ensures) (c .before .before .put-messages .ensures) (c .before .before .before .before .before .before .before .before .before .before .before .before .before .before .before .if1 .left)))
 
 pub pack-spec : {M : Type 1} → statement M
 pack-spec =

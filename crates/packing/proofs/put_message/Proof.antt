@@ -26,7 +26,7 @@ same-length : tie.Need-same-length
 same-length c = simp length-set at (c .before .before .put-name .kept .1 .0)
 
 returns : tie.Need-returns
-returns c = 
+returns c =
     let at = c .before .before .before .before .before .args .at in
     let e : at + 1 ≡ suc at = omega arith in
     let f : at + 2 ≡ suc (suc at) = omega arith in

@@ -29,7 +29,7 @@ array-copy-out-m : tie.Need-array-copy-out-m Inv-loop μ-loop
 array-copy-out-m c = search needs
 
 put-message-requires : tie.Need-put-message-requires Inv-loop μ-loop
-put-message-requires c κs = 
+put-message-requires c κs =
     let l = c .before .before .before .loop in
     let h : l .p + messageBytes ≤ length (l .out) = omega (arith, l .inv .1, l .inv .3, l .inv .4) in
     h
@@ -44,13 +44,17 @@ loop-less : tie.Need-loop-less Inv-loop μ-loop
 loop-less c = omega arith
 
 loop-again : tie.Need-loop-again Inv-loop μ-loop
-loop-again c = 
+loop-again c =
     let l = c .before .before .before .before .before .before .loop in
     let a = c .before .before .before .before .before .before .before .before .args in
-    let h : l .i < length (a .t1) = omega (arith, l .inv .2) in
-    (l .inv .0 ∙ next-message (a .t1) (l .out) (l .i) (l .p) h
-        ∙ ap (λ (r : List ℕ). sets r (l .p + messageBytes) (packedMessages (drop (l .i + 1) (a .t1)))) (sym (c .before .before .put-message .ensures)),
-      c .before .before .put-message .kept .1 .0 ∙ l .inv .1, l .inv .2, l .inv .3, omega (arith, l .inv .4))
+    let h : l .i < length (a .t1) = omega (arith, l .inv .2) in (
+      l .inv .0 ∙ next-message (a .t1) (l .out) (l .i) (l .p) h
+          ∙ ap (λ (r : List ℕ). sets r (l .p + messageBytes) (packedMessages (drop (l .i + 1) (a .t1)))) (sym (c .before .before .put-message .ensures)),
+      c .before .before .put-message .kept .1 .0 ∙ l .inv .1,
+      l .inv .2,
+      l .inv .3,
+      omega (arith, l .inv .4),
+    )
 
 same-length : tie.Need-same-length Inv-loop μ-loop
 same-length c = c .before .loop .inv .1

@@ -35,7 +35,7 @@ loop-less : tie.Need-loop-less Inv-loop μ-loop
 loop-less c = omega arith
 
 loop-again : tie.Need-loop-again Inv-loop μ-loop
-loop-again c = 
+loop-again c =
     let l = c .before .loop in
     let a = c .before .before .args in
     (l .inv .0 ∙ rest-stored (a .t1) (l .out) (l .i) (a .at) (omega (arith, l .inv .2)), length-set (l .out) (a .at + l .i) (getD (a .t1) (l .i) 0) ∙ l .inv .1, l .inv .2, l .inv .3)

@@ -35,13 +35,13 @@ loop-less : tie.Need-loop-less Inv-loop μ-loop
 loop-less c = omega arith
 
 loop-again : tie.Need-loop-again Inv-loop μ-loop
-loop-again c = 
+loop-again c =
     let l = c .before .before .loop in
     let a = c .before .before .before .args in
     (row-more (l .a) (a .s .now) (l .i) (a .at) (omega (arith, l .inv .1)) (omega (arith, l .inv .2)) (l .inv .0), length-set (l .a) (l .i) (getD (a .s .now) (a .at + l .i) 0) ∙ l .inv .1, l .inv .2, omega arith)
 
 returns : tie.Need-returns Inv-loop μ-loop
-returns c = 
+returns c =
     let l = c .before .loop in
     let e : l .i ≡ mostStates = omega arith in
     sym (take-all mostStates (l .a) (omega (arith, l .inv .1))) ∙ rw e at (l .inv .0)

@@ -42,7 +42,7 @@ messages-at-requires c κs = search needs
 
 returns-2 : tie.Need-returns-2
 unfolding unpacked
-returns-2 c = 
+returns-2 c =
     let s = c .before .before .before .before .before .before .before .args .s .now in
     rw (eq-eqb (length s) valueBytes (c .before .before .before .before .before .if1 .left), c .before .before .row-at .ensures, c .before .row-at2 .ensures, c .messages-at .ensures)
 
