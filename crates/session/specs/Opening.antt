@@ -5,6 +5,8 @@ use mathlib.Core.List.{List}
 use mathlib.Core.Logic.{_⊎_, inl, inr}
 use Prim.Native.Nat.{ℕ}
 use native.Mathlib.Omega.{arith}
+use lib.Dec.{eqb}
+use Rattle.names.specs.If.{if}
 use Rattle.behaviour.specs.declared.Behaviour.{Behaviour}
 use Rattle.behaviour.specs.declared.Refusal.{Refusal}
 use Rattle.behaviour.specs.Refusals.{refusal}
@@ -20,6 +22,10 @@ use Rattle.session.specs.declared.Answer.the-variants as answer
 -- "Opening hands back the start (both at state 0, both return points none)"
 abbrev pub opened : Session
 opened = record { stand = start }
+
+-- a verdict's refusal, to an opening: the run itself is not asked for, so one that is longer than the lent buffer is a stuck pair's
+abbrev pub notOpened : Refusal → Answer
+notOpened f = if (eqb (f .number) 12) (answer.Refused (refusal 14 0)) (answer.Refused f)
 
 -- on a compliant pair
 pub record Begins (c s : Behaviour) (z : Session) : Type 0 where
