@@ -9,6 +9,8 @@ use Rattle.behaviour.specs.declared.Behaviour.{Behaviour}
 use Rattle.behaviour.specs.SoundLaws.{Parts, parts}
 use Rattle.runs.specs.System as runs
 use Rattle.runs.specs.Rank.{from-snoc}
+use Rattle.stands.specs.declared.ClientState.{ClientState}
+use Rattle.stands.specs.declared.ServerState.{ServerState}
 use Rattle.stands.specs.declared.Stand.{Stand}
 use Rattle.stands.specs.Stands.{said, cause, start, step, pair}
 use Rattle.stands.specs.Stands as rules
@@ -16,7 +18,8 @@ use Rattle.stands.specs.Judgement.{compliant, Judged}
 use Rattle.compliance.specs.Labels.{few, labelled}
 use Rattle.verdict.specs.Answer.{BothSound}
 use Rattle.history.specs.Calls.{Call, message, rollback, Calls, opening}
-use Rattle.history.specs.Demand.{ClientPoint, ServerPoint, Demand}
+use Rattle.history.specs.Demand.{Seen, ClientPoint, ServerPoint, Demand}
+use Rattle.history.specs.Determined.{determined}
 use Rattle.history.specs.Played.{has, session}
 use Rattle.history.specs.Meets.{Steps, told, meets}
 use Rattle.session.specs.declared.Session.{Session}
@@ -95,7 +98,7 @@ module _ (c s : Behaviour) (sounds : BothSound c s) where
   good-next z y rollback g e =
       let r = rolled-step z y g e in
       one-more z y 255 g (by-255 (z .stand) (y .stand) r)
-          (rollback-within c s (parts c (sounds .client)) (parts s (sounds .server)) (z .stand) (y .stand) (g .within) r)
+      (rollback-within c s (parts c (sounds .client)) (parts s (sounds .server)) (z .stand) (y .stand) (g .within) r)
 
   -- no run reaches a bad stand
   module _ (safe : (w : List ℕ) → runs.ToBad (pair c s) w → ⊥) where
@@ -136,3 +139,15 @@ module _ (c s : Behaviour) (z : Session) (b : Begins c s z) where
 
   pub server-told : (h : Calls) → ServerPoint (clientSide c) (serverSide s) (watched c s z) h (serverPoint (session (next c s) z h .stand .serverpoint))
   server-told h = told named (clientSide c) (serverSide s) (next c s) z at by-steps h .server
+
+  -- on its own pair no call gives 13 or 15: one that is not granted gives 16 or 17
+  pub faultless : (h : Calls) → fault c s (session (next c s) z h .stand) ≡ 0
+  unfolding steps
+  faultless h =
+      let k = steps c s (b .sounds) (safe-of c s (b .stands) (b .judged)) in
+      rw (b .begins) (no-fault c s (b .sounds) (session (next c s) opened h) (told named (clientSide c) (serverSide s) (next c s) opened at k h .good))
+
+  -- any other session that meets demand 3 on this pair grants the same calls and stands at the same states
+  pub only-one : (w : Seen ClientState ServerState) → Demand named (clientSide c) (serverSide s) w → (h : Calls)
+      → (w .client h ≡ watched c s z .client h) × (w .server h ≡ watched c s z .server h) × ((k : Call) → w .granted h k ≡ watched c s z .granted h k)
+  only-one w d = determined named (clientSide c) (serverSide s) w (watched c s z) d demand3

@@ -3,7 +3,6 @@ use behaviour::Behaviour;
 use behaviour::Refusal;
 use stands::Stand;
 use steps::Next;
-
 ghost use mathlib.Core.Path.{_≡_};
 ghost use Rattle.session.specs.Answers.{refused, fault, byStep, messaged, rolledBack};
 
