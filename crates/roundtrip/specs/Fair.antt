@@ -15,7 +15,7 @@ use Rattle.tokens.specs.Lines.{line, after, ending}
 use Rattle.tokens.specs.declared.Label.{Label}
 use Rattle.tokens.specs.declared.Label.the-variants.{Mark, Take, Send, Other}
 use Rattle.tokens.specs.declared.Line.{Line}
-use Rattle.roundtrip.specs.Bools.{never, both}
+use Rattle.behaviour.specs.SoundLaws.{no, both}
 use Rattle.roundtrip.specs.Names.{not-zero}
 
 pub name-high : (c : ℕ) → isNameByte c ≡ true → c ≤ 122
@@ -24,11 +24,11 @@ name-high c e = go (leb 97 c) (leb c 122) (leb 48 c) (leb c 57) refl refl e
     go : (s t u v : Bool) → leb c 122 ≡ t → leb c 57 ≡ v → ((s && t) || (u && v)) ≡ true → c ≤ 122
     go s true u v p q h = leb-true c 122 p
     go true false true true p q h = let k : c ≤ 57 = leb-true c 57 q in omega arith
-    go true false true false p q h = never h
-    go true false false v p q h = never h
+    go true false true false p q h = no h
+    go true false false v p q h = no h
     go false false true true p q h = let k : c ≤ 57 = leb-true c 57 q in omega arith
-    go false false true false p q h = never h
-    go false false false v p q h = never h
+    go false false true false p q h = no h
+    go false false false v p q h = no h
 
 full-name : (j v : ℕ) → full (suc j) v ≡ true → padded (suc j) v ≡ true
 unfolding full padded

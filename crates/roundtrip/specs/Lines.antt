@@ -16,7 +16,7 @@ use Rattle.tokens.specs.declared.Label.the-variants.{Mark, Take, Send, Other}
 use Rattle.tokens.specs.declared.Line.{Line}
 use Rattle.tokens.specs.declared.Head.{Head}
 use Rattle.writer.specs.Spelling.{decimalOf, decimal, labelText, opening, closing, lineText, headText}
-use Rattle.roundtrip.specs.Bools.{never, both}
+use Rattle.behaviour.specs.SoundLaws.{no, both}
 use Rattle.roundtrip.specs.Names.{not-zero, name-back}
 use Rattle.roundtrip.specs.Numbers.{Apart, other, number-back}
 
@@ -51,7 +51,7 @@ name-low c e = go (leb 97 c) (leb 48 c) refl refl e
     go : (s t : Bool) → leb 97 c ≡ s → leb 48 c ≡ t → ((s && leb c 122) || (t && leb c 57)) ≡ true → 48 ≤ c
     go true t p q h = let k : 97 ≤ c = leb-true 97 c p in omega arith
     go false true p q h = leb-true 48 c q
-    go false false p q h = never h
+    go false false p q h = no h
 
 full-plain : (k n : ℕ) → full k n ≡ true → Plain (nameText k n)
 unfolding full nameText
@@ -81,7 +81,7 @@ Allowed Other = ⊥
 name-there : (n : ℕ) → isName n ≡ true → n ≡ 0 → ⊥
 unfolding padded
 name-there n e z =
-    let h : isName 0 ≡ true = subst (λ (x : ℕ). isName x ≡ true) z e in never h
+    let h : isName 0 ≡ true = subst (λ (x : ℕ). isName x ≡ true) z e in no h
 
 label-back : (l : Label) → Allowed l → label (labelText l) ≡ l
 unfolding label word byte

@@ -25,7 +25,6 @@ use Rattle.aut.specs.declared.Read.{Read}
 use Rattle.aut.specs.Adding.{insert, has, unused, bare, add, addLabel, addMark, addMessage, check, checkLabel, checkMessage}
 use Rattle.aut.specs.File.{refuse, accept, markedFinished, finish, next, lines, begin, file}
 use Rattle.writer.specs.Text.{afterState}
-use Rattle.roundtrip.specs.Bools.{never}
 use Rattle.roundtrip.specs.Rebuild.{holding, AllBetween, Signed, Settled, rest-zero}
 use Rattle.roundtrip.specs.Sorted.{Sorted, least, insert-sorted, insert-between, insert-length, settled-message, settled-mark}
 use Rattle.roundtrip.specs.RoundTrip.{Valid}

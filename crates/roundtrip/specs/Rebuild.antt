@@ -1,4 +1,4 @@
--- The linesFrom of a sound value, added one after the other, give the value.
+-- The lines of a sound value, added one after the other, give the value.
 use mathlib.Core.Path.{_≡_, refl, sym, ap, ap₂, subst, _∙_}
 use mathlib.Core.List.{List, [], _∷_, _++_, append-assoc, append-nil}
 use mathlib.Core.Bool.{Bool, true, false, _&&_, _||_}
@@ -23,7 +23,7 @@ use Rattle.aut.specs.declared.Read.{Read}
 use Rattle.aut.specs.Adding.{insert, has, unused, bare, add, addLabel, addMark, addMessage, check, checkLabel, checkMessage}
 use Rattle.aut.specs.File.{refuse, finish}
 use Rattle.writer.specs.Text.{messageLabel, messageLine, markLine, messageLines, afterState, linesFrom}
-use Rattle.roundtrip.specs.Bools.{never, neverTrue}
+use Rattle.behaviour.specs.SoundLaws.{no}
 use Rattle.roundtrip.specs.AddAll.{addAll}
 
 -- the value with the messages a
@@ -48,8 +48,8 @@ order x m e = go (ltb (x .from) (m .from)) (eqb (x .from) (m .from)) (ltb (x .na
         → (x .from < m .from) ⊎ ((x .from ≡ m .from) × (x .name < m .name))
     go true t u p q r h = inl (ltb-true _ _ p)
     go false true true p q r h = inr (eqb-true _ _ q, ltb-true _ _ r)
-    go false true false p q r h = never h
-    go false false u p q r h = never h
+    go false true false p q r h = no h
+    go false false u p q r h = no h
 
 pub not-back : (x m : Message) → before x m ≡ true → before m x ≡ false
 not-back x m e = go (order x m e)

@@ -27,7 +27,7 @@ use Rattle.writer.specs.Lengths.{parts-length, text-few}
 use Rattle.roundtrip.specs.Lines.{Allowed}
 use Rattle.roundtrip.specs.AddAll.{addAll, Writable, Each, none, more, file-added}
 use Rattle.roundtrip.specs.Rebuild.{holding, AllBetween, Settled, lines-rebuilt}
-use Rattle.roundtrip.specs.Sorted.{Sorted, sorted-ascend}
+use Rattle.roundtrip.specs.Sorted.{Sorted, sorted-ascend, between-after}
 
 each-append : (a b : List Line) → Each a → Each b → Each (a ++ b)
 each-append [] b p q = q
@@ -52,15 +52,6 @@ module _ (s : ℕ) (high : s ≤ mostStates) where
           more {l = messageLine g m} (record { from-low = omega arith; to-low = omega arith; allowed = signed-allowed g (m .name) (v .0 .2) }) h
       go false h = none
 
-  between-after : (k : ℕ) (ms : List Message) → AllBetween s ms → AllBetween s (afterState k ms)
-  unfolding afterState
-  between-after k [] v = tt
-  between-after k (m ∷ ms) v = go (eqb (m .from) k) (between-after k ms (v .1))
-    where
-      go : (t : Bool) → AllBetween s (afterState k ms) → AllBetween s (if t (afterState k ms) (m ∷ ms))
-      go true h = h
-      go false h = v
-
   each-mark : (k m : ℕ) → (m ≡ 0) ⊎ ((m ≡ 1) × (k < s)) → Each (markLine k m)
   each-mark k m (inl z) = rw (ne-eqb m 1 (omega arith)) none
   each-mark k m (inr z) = let l = z .1 in rw (eq-eqb m 1 (z .0)) (more {l = record { from = k; label = Mark; to = k }} (record { from-low = omega arith; to-low = omega arith; allowed = tt }) none)
@@ -72,7 +63,7 @@ module _ (s : ℕ) (high : s ≤ mostStates) where
   each-line (m ∷ mk) [] k ms o v = none
   each-line (m ∷ mk) (g ∷ gs) k ms o v =
       each-append (markLine k m) _ (each-mark k m (o .0))
-      (each-append (messageLines k g ms) _ (each-message k g ms v) (each-line mk gs (k + 1) (afterState k ms) (o .2) (between-after k ms v)))
+      (each-append (messageLines k g ms) _ (each-message k g ms v) (each-line mk gs (k + 1) (afterState k ms) (o .2) (between-after s k ms v)))
 
 -- marks and messages are all written
 lines-counted : (s k : ℕ) (ms gs : List ℕ) (l : List Message) → Settled s k ms gs l → length (linesFrom k ms gs l) ≡ total ms + length l
