@@ -1,5 +1,5 @@
 -- Two tests that hold, as one; and a test that cannot fail.
-use mathlib.Core.Path.{_≡_, refl, sym}
+use mathlib.Core.Path.{_≡_, sym}
 use mathlib.Core.Bool.{Bool, true, false, _&&_}
 use Rattle.behaviour.specs.SoundLaws.{no}
 

@@ -1,15 +1,15 @@
 -- A label that is read is allowed, or is none of the three.
-use mathlib.Core.Path.{_≡_, refl, sym, ap, subst, _∙_}
-use mathlib.Core.List.{List, [], _∷_, _++_}
+use mathlib.Core.Path.{_≡_, refl, subst}
+use mathlib.Core.List.{List, [], _∷_}
 use mathlib.Core.Bool.{Bool, true, false, _&&_, _||_}
 use mathlib.Core.Logic.{_⊎_, inl, inr}
-use Prim.Native.Nat.{ℕ, zero, suc, _+_, _-_, _*_, _/_, _%_, _<_, _≤_}
+use Prim.Native.Nat.{ℕ, zero, suc, _+_, _-_, _*_, _/_, _%_, _≤_}
 use native.Mathlib.Omega.{arith}
-use borrow.Author.Tests.{eq-eqb, ne-eqb, leb-true, leb-false, eqb-true, eqb-false}
+use borrow.Author.Tests.{eq-eqb, leb-true, eqb-true}
 use lib.Dec.{eqb, leb}
 use Rattle.names.specs.If.{if}
 use Rattle.names.specs.Names.{nameBytes, isNameByte, name, nameNumber, full, padded, isName}
-use Rattle.tokens.specs.Parse.{Got, got, off, andThen, Nothing, nothing}
+use Rattle.tokens.specs.Parse.{Got, got, off, andThen, Nothing}
 use Rattle.tokens.specs.Tokens.{spaces, byte, number, quoted, labelled, label, taken, sent, marked, word}
 use Rattle.tokens.specs.Lines.{line, after, ending}
 use Rattle.tokens.specs.declared.Label.{Label}

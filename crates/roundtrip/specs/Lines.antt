@@ -1,24 +1,23 @@
 -- Reading a written line gives it back.
-use mathlib.Core.Path.{_≡_, refl, sym, ap, subst, _∙_}
-use mathlib.Core.List.{List, [], _∷_, _++_, append-assoc, append-nil}
+use mathlib.Core.Path.{_≡_, refl, subst}
+use mathlib.Core.List.{List, [], _∷_, _++_, append-assoc}
 use mathlib.Core.Bool.{Bool, true, false, _&&_, _||_}
-use Prim.Native.Nat.{ℕ, zero, suc, _+_, _-_, _*_, _/_, _%_, _<_, _≤_}
+use Prim.Native.Nat.{ℕ, zero, suc, _+_, _-_, _/_, _%_, _<_, _≤_}
 use native.Mathlib.Omega.{arith}
-use borrow.Author.Tests.{eq-eqb, ne-eqb, leb-true, leb-false}
+use borrow.Author.Tests.{ne-eqb, leb-true}
 use lib.Dec.{eqb, leb, ltb}
 use Rattle.names.specs.If.{if}
-use Rattle.names.specs.Names.{nameBytes, isNameByte, nameNumber, full, padded, isName, nameText, textOf}
-use Rattle.tokens.specs.Parse.{Got, got, off, andThen, nothing}
-use Rattle.tokens.specs.Tokens.{spaces, byte, number, text, prepend, some, quoted, labelled, label, taken, sent, word}
-use Rattle.tokens.specs.Lines.{line, head, after, ending, spaced}
+use Rattle.names.specs.Names.{nameBytes, isNameByte, full, padded, isName, nameText}
+use Rattle.tokens.specs.Parse.{got}
+use Rattle.tokens.specs.Tokens.{spaces, byte, number, text, some, quoted, labelled, label, word}
+use Rattle.tokens.specs.Lines.{line, head}
 use Rattle.tokens.specs.declared.Label.{Label}
 use Rattle.tokens.specs.declared.Label.the-variants.{Mark, Take, Send, Other}
 use Rattle.tokens.specs.declared.Line.{Line}
-use Rattle.tokens.specs.declared.Head.{Head}
 use Rattle.writer.specs.Spelling.{decimalOf, decimal, labelText, opening, closing, lineText, headText}
 use Rattle.behaviour.specs.SoundLaws.{no, both}
 use Rattle.roundtrip.specs.Names.{not-zero, name-back}
-use Rattle.roundtrip.specs.Numbers.{Apart, other, number-back}
+use Rattle.roundtrip.specs.Numbers.{other, number-back}
 
 -- a number begins with no space
 dec-spaces : (k n : ℕ) (r : List ℕ) → spaces (decimalOf k n ++ r) ≡ decimalOf k n ++ r

@@ -1,9 +1,9 @@
 -- The round trip: reading what is written of a valid value gives the value.
-use mathlib.Core.Path.{_≡_, refl, sym, ap, ap₂, subst, _∙_}
-use mathlib.Core.List.{List, [], _∷_, _++_, append-assoc, append-nil}
+use mathlib.Core.Path.{_≡_, refl, sym, ap, subst, _∙_}
+use mathlib.Core.List.{List, [], _∷_, _++_}
 use mathlib.Core.Bool.{Bool, true, false}
 use mathlib.Core.Logic.{_⊎_, inl, inr}
-use Prim.Native.Nat.{ℕ, zero, suc, _+_, _-_, _<_, _≤_}
+use Prim.Native.Nat.{ℕ, suc, _+_, _-_, _<_, _≤_}
 use native.Mathlib.Omega.{arith}
 use borrow.Author.Tests.{eq-eqb, ne-eqb, le-ltb}
 use lib.Dec.{eqb}
@@ -11,8 +11,7 @@ use lib.ListN.{length, length-append, replicate}
 use lib.Seq.{take-append-seam}
 use Rattle.names.specs.If.{if}
 use Rattle.names.specs.Names.{isName}
-use Rattle.tokens.specs.declared.Label.{Label}
-use Rattle.tokens.specs.declared.Label.the-variants.{Mark, Take, Send, Other}
+use Rattle.tokens.specs.declared.Label.the-variants.{Mark, Take, Send}
 use Rattle.tokens.specs.declared.Line.{Line}
 use Rattle.behaviour.specs.declared.Message.{Message}
 use Rattle.behaviour.specs.declared.Behaviour.{Behaviour}
@@ -22,10 +21,10 @@ use Rattle.aut.specs.declared.Read.{Read}
 use Rattle.aut.specs.Adding.{unused, bare}
 use Rattle.aut.specs.File.{markedFinished, finish, accept, file}
 use Rattle.writer.specs.Spelling.{headText}
-use Rattle.writer.specs.Text.{messageLabel, messageLine, markLine, messageLines, afterState, linesFrom, linesOf, linesText, lineCount, text}
+use Rattle.writer.specs.Text.{messageLabel, messageLine, markLine, messageLines, afterState, linesFrom, linesText, lineCount, text}
 use Rattle.writer.specs.Lengths.{parts-length, text-few}
 use Rattle.roundtrip.specs.Lines.{Allowed}
-use Rattle.roundtrip.specs.AddAll.{addAll, Writable, Each, none, more, file-added}
+use Rattle.roundtrip.specs.AddAll.{addAll, Each, none, more, file-added}
 use Rattle.roundtrip.specs.Rebuild.{holding, AllBetween, Settled, lines-rebuilt}
 use Rattle.roundtrip.specs.Sorted.{Sorted, sorted-ascend, between-after}
 

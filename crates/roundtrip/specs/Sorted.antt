@@ -1,11 +1,11 @@
 -- Sorted messages stay sorted, and a value stays sound, where a message is inserted.
-use mathlib.Core.Path.{_≡_, refl, sym, ap, ap₂, subst, _∙_}
-use mathlib.Core.List.{List, [], _∷_, _++_, append-assoc, append-nil}
+use mathlib.Core.Path.{_≡_, refl, sym, subst}
+use mathlib.Core.List.{List, [], _∷_, _++_}
 use mathlib.Core.Bool.{Bool, true, false, _&&_, _||_}
 use mathlib.Core.Logic.{_⊎_, inl, inr}
 use Prim.Native.Nat.{ℕ, zero, suc, _+_, _-_, _<_, _≤_}
 use native.Mathlib.Omega.{arith}
-use borrow.Author.Tests.{eq-eqb, ne-eqb, lt-ltb, le-ltb, ltb-true, ltb-false, eqb-true, eqb-false}
+use borrow.Author.Tests.{eq-eqb, ne-eqb, lt-ltb, le-ltb, ltb-false, eqb-true, eqb-false}
 use lib.Dec.{eqb, ltb}
 use lib.ListN.{length, set}
 use Rattle.names.specs.If.{if}
@@ -15,7 +15,7 @@ use Rattle.behaviour.specs.Sound.{before}
 use Rattle.aut.specs.Adding.{insert, has}
 use Rattle.writer.specs.Text.{afterState}
 use Rattle.roundtrip.specs.Bools.{never}
-use Rattle.roundtrip.specs.Rebuild.{Below, Ascend, AllBetween, pick, Signed, Settled, order, not-back, not-same}
+use Rattle.roundtrip.specs.Rebuild.{Below, Ascend, AllBetween, Signed, Settled, order}
 
 abbrev pub Above : Message → List Message → Type 0
 Above m [] = Unit {0}

@@ -1,6 +1,6 @@
 -- The test of soundness, and what reading and writing know of a value.
 use mathlib.Core.Path.{_≡_, refl, sym, ap, ap₂, subst, _∙_}
-use mathlib.Core.List.{List, [], _∷_, _++_}
+use mathlib.Core.List.{List, [], _∷_}
 use mathlib.Core.Bool.{Bool, true, false, _&&_, _||_, not}
 use mathlib.Core.Logic.{_⊎_, inl, inr}
 use Prim.Native.Nat.{ℕ, zero, suc, _+_, _-_, _<_, _≤_}
@@ -11,7 +11,7 @@ use lib.ListN.{length, replicate}
 use Rattle.names.specs.If.{if}
 use Rattle.names.specs.Names.{isName}
 use Rattle.behaviour.specs.declared.Message.{Message}
-use Rattle.behaviour.specs.Sound.{before, leads, sorted, between, allBetween, blank, allBlank, speaks, signed, markable, settled}
+use Rattle.behaviour.specs.Sound.{leads, sorted, between, allBetween, blank, allBlank, speaks, signed, markable, settled}
 use Rattle.aut.specs.Adding.{unused}
 use Rattle.aut.specs.File.{markedFinished}
 use Rattle.writer.specs.Text.{afterState}

@@ -1,7 +1,7 @@
 -- The promises on values and on the round trip: 13 is given exactly to "a behaviour value that no accepted file gives", and every other value
 -- is written as a text that reads as that value.
-use mathlib.Core.Path.{_≡_, refl, sym, ap, ap₂, subst, _∙_}
-use mathlib.Core.List.{List, [], _∷_, _++_}
+use mathlib.Core.Path.{_≡_, refl, sym, ap, ap₂, _∙_}
+use mathlib.Core.List.{List, _++_}
 use mathlib.Core.Bool.{true, false}
 use Prim.Native.Nat.{ℕ, _+_, _-_, _≤_}
 use native.Mathlib.Omega.{arith}
@@ -11,7 +11,7 @@ use lib.ListN.{length, length-append, length-replicate, length-drop, take, drop,
 use lib.Seq.{take-append-seam, drop-append-seam, length-take-le}
 use Rattle.behaviour.specs.declared.Message.{Message}
 use Rattle.behaviour.specs.declared.Behaviour.{Behaviour}
-use Rattle.behaviour.specs.Limits.{mostStates, mostLines, mostBytes}
+use Rattle.behaviour.specs.Limits.{mostLines, mostBytes}
 use Rattle.behaviour.specs.Sound.{messages, sound}
 use Rattle.behaviour.specs.SoundLaws.{Sized, Parts, parts, whole}
 use Rattle.aut.specs.Adding.{unused, bare}
