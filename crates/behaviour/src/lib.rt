@@ -107,13 +107,15 @@ fn is_between(m: Message, states: u8) -> bool
     names::is_name(n)
 }
 
-fn all_between(a: Messages, n: usize, states: u8) -> bool
+// Loops read the value's own array: a copy of it would take stack.
+fn all_between(b: Behaviour, n: usize) -> bool
     requires { ⌜ n ≤ 96 ⌝ }
-    ensures { λ r. ⌜ r ≡ allBetween states (take n a) ⌝ }
+    ensures { λ r. ⌜ r ≡ allBetween (b .states) (take n (b .messages)) ⌝ }
 {
+    let states = b.states;
     let mut i = 0;
     while i < n {
-        let m = a[i];
+        let m = b.messages[i];
         if !is_between(m, states) {
             return false;
         }
@@ -122,15 +124,15 @@ fn all_between(a: Messages, n: usize, states: u8) -> bool
     true
 }
 
-fn is_sorted(a: Messages, n: usize) -> bool
+fn is_sorted(b: Behaviour, n: usize) -> bool
     requires { ⌜ n ≤ 96 ⌝ }
-    ensures { λ r. ⌜ r ≡ sorted (take n a) ⌝ }
+    ensures { λ r. ⌜ r ≡ sorted (take n (b .messages)) ⌝ }
 {
     let mut i = 0;
     let mut j = 1;
     while j < n {
-        let x = a[i];
-        let m = a[j];
+        let x = b.messages[i];
+        let m = b.messages[j];
         if !comes_before(x, m) {
             return false;
         }
@@ -152,12 +154,12 @@ fn is_blank(m: Message) -> bool
     m.to == 0
 }
 
-fn all_blank(a: Messages, n: usize) -> bool
-    ensures { λ r. ⌜ r ≡ allBlank (drop n a) ⌝ }
+fn all_blank(b: Behaviour, n: usize) -> bool
+    ensures { λ r. ⌜ r ≡ allBlank (drop n (b .messages)) ⌝ }
 {
     let mut i = n;
     while i < LINES {
-        let m = a[i];
+        let m = b.messages[i];
         if !is_blank(m) {
             return false;
         }
@@ -166,13 +168,13 @@ fn all_blank(a: Messages, n: usize) -> bool
     true
 }
 
-fn speaks_at(a: Messages, n: usize, x: u8) -> bool
+fn speaks_at(b: Behaviour, n: usize, x: u8) -> bool
     requires { ⌜ n ≤ 96 ⌝ }
-    ensures { λ r. ⌜ r ≡ speaks x (take n a) ⌝ }
+    ensures { λ r. ⌜ r ≡ speaks x (take n (b .messages)) ⌝ }
 {
     let mut i = 0;
     while i < n {
-        let m = a[i];
+        let m = b.messages[i];
         if m.from == x {
             return true;
         }
@@ -206,27 +208,27 @@ fn is_markable(m: u8, g: u8) -> bool
 }
 
 // The state x, by its mark, its sign and the messages.
-fn is_state(m: u8, g: u8, a: Messages, n: usize, x: u8) -> bool
+fn is_state(m: u8, g: u8, b: Behaviour, n: usize, x: u8) -> bool
     requires { ⌜ n ≤ 96 ⌝ }
-    ensures { λ r. ⌜ r ≡ (signed (speaks x (take n a)) g && markable m g) ⌝ }
+    ensures { λ r. ⌜ r ≡ (signed (speaks x (take n (b .messages))) g && markable m g) ⌝ }
 {
-    let speaking = speaks_at(a, n, x);
+    let speaking = speaks_at(b, n, x);
     if !is_signed(speaking, g) {
         return false;
     }
     is_markable(m, g)
 }
 
-fn is_settled(marks: PerState, signs: PerState, a: Messages, n: usize) -> bool
+fn is_settled(b: Behaviour, n: usize) -> bool
     requires { ⌜ n ≤ 96 ⌝ }
-    ensures { λ r. ⌜ r ≡ settled 0 marks signs (take n a) ⌝ }
+    ensures { λ r. ⌜ r ≡ settled 0 (b .marks) (b .signs) (take n (b .messages)) ⌝ }
 {
     let mut x: u8 = 0;
     let mut i = 0;
     while i < STATES {
-        let m = marks[i];
-        let g = signs[i];
-        if !is_state(m, g, a, n, x) {
+        let m = b.marks[i];
+        let g = b.signs[i];
+        if !is_state(m, g, b, n, x) {
             return false;
         }
         x += 1;
@@ -275,16 +277,14 @@ pub fn is_sound(b: Behaviour) -> bool
     if LINES < n + marked_count(marks) {
         return false;
     }
-    let a = b.messages;
-    if !all_between(a, n, states) {
+    if !all_between(b, n) {
         return false;
     }
-    if !is_sorted(a, n) {
+    if !is_sorted(b, n) {
         return false;
     }
-    if !all_blank(a, n) {
+    if !all_blank(b, n) {
         return false;
     }
-    let signs = b.signs;
-    is_settled(marks, signs, a, n)
+    is_settled(b, n)
 }

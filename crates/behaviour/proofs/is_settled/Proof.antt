@@ -7,33 +7,35 @@ use borrow.Author.Tests.{not-true, not-false}
 use borrow.Author.Needs.{needs}
 use Rattle.behaviour.specs.Sound.{settled}
 use Rattle.behaviour.proofs.Loops.{settled-end, settled-no, settled-more}
+use Rattle.behaviour.proofs.Lengths.{sized}
 use Rattle.behaviour.proofs.is_settled.Statement.{statement}
 use Rattle.behaviour.proofs.is_settled.Tie as tie
 
 abbrev Inv-loop : tie.InvT-loop
-Inv-loop a n marks signs x₀ i₀ x i =
-    (settled 0 marks signs (take n a) ≡ settled x (drop i marks) (drop i signs) (take n a)) × (x ≡ i) × (length marks ≡ 10) × (length signs ≡ 10) × (n ≤ 96)
+Inv-loop n b x₀ i₀ x i =
+    (settled 0 (b .marks) (b .signs) (take n (b .messages)) ≡ settled x (drop i (b .marks)) (drop i (b .signs)) (take n (b .messages)))
+    × (x ≡ i) × (length (b .marks) ≡ 10) × (length (b .signs) ≡ 10) × (n ≤ 96)
 
 abbrev μ-loop : tie.MeasureT-loop
-μ-loop a n marks signs x₀ i₀ x i = 10 - i
+μ-loop n b x₀ i₀ x i = 10 - i
 
 loop-holds : tie.Need-loop-holds Inv-loop μ-loop
-loop-holds c = (refl, refl, search needs, search needs, c .pre)
+loop-holds c = let z = sized (c .args .t1) _ (c .good .0) in (refl, refl, z .marks, z .signs, c .pre)
 
-array-read-m : tie.Need-array-read-m Inv-loop μ-loop
-array-read-m c = search needs
+element-copy-out-m : tie.Need-element-copy-out-m Inv-loop μ-loop
+element-copy-out-m c = search needs
 
-array-read-g : tie.Need-array-read-g Inv-loop μ-loop
-array-read-g c = search needs
+element-copy-out-g : tie.Need-element-copy-out-g Inv-loop μ-loop
+element-copy-out-g c = search needs
 
 is-state-requires : tie.Need-is-state-requires Inv-loop μ-loop
 is-state-requires c κs = search needs
 
 returns : tie.Need-returns Inv-loop μ-loop
 returns c =
-    let s = c .before .before .before .before in
-    let l = c .before .before .before .loop in
-    settled-no (take (s .args .n) (s .args .a)) (s .args .t1) (s .args .t2) (l .x) (l .i) (omega arith) (omega arith)
+    let s = c .before .before .before .before .before .before .args in
+    let l = c .before .before .before .before .before .loop in
+    settled-no (take (s .n) (s .t1 .messages)) (s .t1 .marks) (s .t1 .signs) (l .x) (l .i) (omega (arith, l .inv .2)) (omega (arith, l .inv .3))
     (sym (c .before .is-state .ensures) ∙ not-true _ (c .if1 .taken)) ∙ sym (l .inv .0)
 
 add-x : tie.Need-add-x Inv-loop μ-loop
@@ -47,9 +49,9 @@ loop-less c = search needs
 
 loop-again : tie.Need-loop-again Inv-loop μ-loop
 loop-again c =
-    let s = c .before .before .before .before in
-    let l = c .before .before .before .loop in (
-      l .inv .0 ∙ settled-more (take (s .args .n) (s .args .a)) (s .args .t1) (s .args .t2) (l .x) (l .i) (omega arith) (omega arith)
+    let s = c .before .before .before .before .before .before .args in
+    let l = c .before .before .before .before .before .loop in (
+      l .inv .0 ∙ settled-more (take (s .n) (s .t1 .messages)) (s .t1 .marks) (s .t1 .signs) (l .x) (l .i) (omega (arith, l .inv .2)) (omega (arith, l .inv .3))
           (sym (c .before .is-state .ensures) ∙ not-false _ (c .if1 .left)),
       omega arith,
       l .inv .2,
@@ -59,9 +61,9 @@ loop-again c =
 
 returns-2 : tie.Need-returns-2 Inv-loop μ-loop
 returns-2 c =
-    let s = c .before .before in
+    let s = c .before .before .args in
     let l = c .before .loop in
-    settled-end (take (s .args .n) (s .args .a)) (s .args .t1) (s .args .t2) (l .x) (l .i) (omega arith) ∙ sym (l .inv .0)
+    settled-end (take (s .n) (s .t1 .messages)) (s .t1 .marks) (s .t1 .signs) (l .x) (l .i) (omega (arith, l .inv .2)) ∙ sym (l .inv .0)
 
 pub is-settled-spec : {M : Type 1} → statement M
 is-settled-spec =
@@ -70,8 +72,8 @@ is-settled-spec =
     Inv-loop
     μ-loop
     loop-holds
-    array-read-m
-    array-read-g
+    element-copy-out-m
+    element-copy-out-g
     is-state-requires
     returns
     add-x

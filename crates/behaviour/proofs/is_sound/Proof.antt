@@ -41,7 +41,7 @@ all-between-requires c κs = omega arith
 
 returns-4 : tie.Need-returns-4
 returns-4 c =
-    let s = c .before .before .before in
+    let s = c .before .before in
     rw (
       in-range (s .before .before .before .before .before .before .before .args .b) (omega arith) (omega arith) (s .before .before .wide2 .result) (s .before .before .wide2 .ensures) (omega arith),
       ← c .before .all-between .ensures,
@@ -53,7 +53,7 @@ is-sorted-requires c κs = omega arith
 
 returns-5 : tie.Need-returns-5
 returns-5 c =
-    let s = c .before .before .before .before .before in
+    let s = c .before .before .before .before in
     rw (
       in-range (s .before .before .before .before .before .before .before .args .b) (omega arith) (omega arith) (s .before .before .wide2 .result) (s .before .before .wide2 .ensures) (omega arith),
       ← c .before .before .before .all-between .ensures,
@@ -67,7 +67,7 @@ all-blank-requires c κs = search needs
 
 returns-6 : tie.Need-returns-6
 returns-6 c =
-    let s = c .before .before .before .before .before .before .before in
+    let s = c .before .before .before .before .before .before in
     rw (
       in-range (s .before .before .before .before .before .before .before .args .b) (omega arith) (omega arith) (s .before .before .wide2 .result) (s .before .before .wide2 .ensures) (omega arith),
       ← c .before .before .before .before .before .all-between .ensures,
@@ -83,15 +83,15 @@ is-settled-requires c κs = omega arith
 
 returns-7 : tie.Need-returns-7
 returns-7 c =
-    let s = c .before .before .before .before .before .before .before .before .before in
+    let s = c .before .before .before .before .before .before .before in
     rw (
       in-range (s .before .before .before .before .before .before .before .args .b) (omega arith) (omega arith) (s .before .before .wide2 .result) (s .before .before .wide2 .ensures) (omega arith),
-      ← c .before .before .before .before .before .before .before .all-between .ensures,
-      not-false (c .before .before .before .before .before .before .before .all-between .result) (c .before .before .before .before .before .before .if4 .left),
-      ← c .before .before .before .before .before .is-sorted .ensures,
-      not-false (c .before .before .before .before .before .is-sorted .result) (c .before .before .before .before .if5 .left),
-      ← c .before .before .before .all-blank .ensures,
-      not-false (c .before .before .before .all-blank .result) (c .before .before .if6 .left),
+      ← c .before .before .before .before .before .before .all-between .ensures,
+      not-false (c .before .before .before .before .before .before .all-between .result) (c .before .before .before .before .before .if4 .left),
+      ← c .before .before .before .before .is-sorted .ensures,
+      not-false (c .before .before .before .before .is-sorted .result) (c .before .before .before .if5 .left),
+      ← c .before .before .all-blank .ensures,
+      not-false (c .before .before .all-blank .result) (c .before .if6 .left),
     )
     (c .is-settled .ensures)
 

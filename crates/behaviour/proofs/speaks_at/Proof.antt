@@ -7,23 +7,24 @@ use borrow.Author.Tests.{eq-eqb, ne-eqb}
 use borrow.Author.Needs.{needs}
 use Rattle.behaviour.specs.Pick.{Seen, pick-start, pick-end, pick-yes, pick-more}
 use Rattle.behaviour.proofs.Loops.{speaks-pick}
+use Rattle.behaviour.proofs.Lengths.{sized}
 use Rattle.behaviour.proofs.speaks_at.Statement.{statement}
 use Rattle.behaviour.proofs.speaks_at.Tie as tie
 
 abbrev Inv-loop : tie.InvT-loop
-Inv-loop n x a i₀ i = Seen (λ m. eqb (m .from) x) (λ _. true) false n a i
+Inv-loop n x b i₀ i = Seen (λ m. eqb (m .from) x) (λ _. true) false n (b .messages) i
 
 abbrev μ-loop : tie.MeasureT-loop
-μ-loop n x a i₀ i = n - i
+μ-loop n x b i₀ i = n - i
 
 loop-holds : tie.Need-loop-holds Inv-loop μ-loop
-loop-holds c = pick-start _ _ _ _ _ (c .pre) (search needs)
+loop-holds c = pick-start _ _ _ _ _ (c .pre) (sized (c .args .t1) _ (c .good .0) .messages)
 
 mul-m : tie.Need-mul-m Inv-loop μ-loop
 mul-m c = search needs
 
-array-copy-out-m : tie.Need-array-copy-out-m Inv-loop μ-loop
-array-copy-out-m c = search needs
+element-copy-out-m : tie.Need-element-copy-out-m Inv-loop μ-loop
+element-copy-out-m c = search needs
 
 returns : tie.Need-returns Inv-loop μ-loop
 returns c =
@@ -51,7 +52,7 @@ speaks-at-spec =
     μ-loop
     loop-holds
     mul-m
-    array-copy-out-m
+    element-copy-out-m
     returns
     add-i
     loop-less
