@@ -4,11 +4,12 @@ ghost use mathlib.Core.List.{List};
 ghost use mathlib.Core.Bool.{_&&_};
 ghost use Prim.Native.Nat.{_≤_, _<_};
 ghost use lib.Dec.{eqb};
-ghost use lib.ListN.{length, getD, take, drop};
+ghost use lib.ListN.{length, getD, take, drop, replicate};
 ghost use Rattle.names.specs.If.{if};
 ghost use Rattle.behaviour.specs.declared.Message.{Message};
 ghost use Rattle.behaviour.specs.Refusals.{refusal};
-ghost use Rattle.behaviour.specs.Sound.{before, between, allBetween, sorted, blank, allBlank, speaks, signed, markable, settled, total, sound};
+ghost use Rattle.behaviour.specs.Spoken.{spoken, settledBy};
+ghost use Rattle.behaviour.specs.Sound.{before, between, allBetween, sorted, blank, allBlank, signed, markable, total, sound};
 
 // S is at most this.
 pub const STATES: usize = 10;
@@ -168,19 +169,24 @@ fn all_blank(b: Behaviour, n: usize) -> bool
     true
 }
 
-fn speaks_at(b: Behaviour, n: usize, x: u8) -> bool
+// 1 at each state that some message is from.
+fn speaking(b: Behaviour, n: usize) -> PerState
     requires { ⌜ n ≤ 96 ⌝ }
-    ensures { λ r. ⌜ r ≡ speaks x (take n (b .messages)) ⌝ }
+    ensures { λ r. ⌜ r ≡ spoken (replicate 10 0) (take n (b .messages)) ⌝ }
 {
+    let mut table = [0; STATES];
     let mut i = 0;
     while i < n {
         let m = b.messages[i];
-        if m.from == x {
-            return true;
+        let x = wide(m.from);
+        if x < STATES {
+            table[x] = 1;
+            i += 1;
+        } else {
+            i += 1;
         }
-        i += 1;
     }
-    false
+    table
 }
 
 fn is_signed(speaking: bool, g: u8) -> bool
@@ -207,31 +213,28 @@ fn is_markable(m: u8, g: u8) -> bool
     g != 0
 }
 
-// The state x, by its mark, its sign and the messages.
-fn is_state(m: u8, g: u8, b: Behaviour, n: usize, x: u8) -> bool
-    requires { ⌜ n ≤ 96 ⌝ }
-    ensures { λ r. ⌜ r ≡ (signed (speaks x (take n (b .messages))) g && markable m g) ⌝ }
+// A state, by its mark, its sign and whether it speaks.
+fn is_state(m: u8, g: u8, t: u8) -> bool
+    ensures { λ r. ⌜ r ≡ (signed (eqb t 1) g && markable m g) ⌝ }
 {
-    let speaking = speaks_at(b, n, x);
+    let speaking = t == 1;
     if !is_signed(speaking, g) {
         return false;
     }
     is_markable(m, g)
 }
 
-fn is_settled(b: Behaviour, n: usize) -> bool
-    requires { ⌜ n ≤ 96 ⌝ }
-    ensures { λ r. ⌜ r ≡ settled 0 (b .marks) (b .signs) (take n (b .messages)) ⌝ }
+fn is_settled(marks: PerState, signs: PerState, table: PerState) -> bool
+    ensures { λ r. ⌜ r ≡ settledBy marks signs table ⌝ }
 {
-    let mut x: u8 = 0;
     let mut i = 0;
     while i < STATES {
-        let m = b.marks[i];
-        let g = b.signs[i];
-        if !is_state(m, g, b, n, x) {
+        let m = marks[i];
+        let g = signs[i];
+        let t = table[i];
+        if !is_state(m, g, t) {
             return false;
         }
-        x += 1;
         i += 1;
     }
     true
@@ -286,5 +289,7 @@ pub fn is_sound(b: Behaviour) -> bool
     if !all_blank(b, n) {
         return false;
     }
-    is_settled(b, n)
+    let table = speaking(b, n);
+    let signs = b.signs;
+    is_settled(marks, signs, table)
 }
