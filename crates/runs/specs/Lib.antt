@@ -6,4 +6,5 @@ pub mod Jump
 pub mod Compute
 pub mod Update
 pub mod Grown
+pub mod Pushed
 pub mod Trace

@@ -1,6 +1,6 @@
 -- `writer::put_decimal` meets its contract: the digits before the last, with one fewer to come, and the last.
 use mathlib.Core.Path.{_∙_}
-use Prim.Native.Nat.{_+_, _-_, _/_, _%_}
+use Prim.Native.Nat.{_+_, _-_}
 use native.Mathlib.Omega.{arith}
 use Rattle.writer.proofs.Puts.{put-length}
 use Rattle.writer.proofs.Digits.{tens-more, small-short, small-put, large-first, large-next, large-put}
@@ -79,7 +79,7 @@ put-decimal-put-decimal-requires : (t : ℕ) → put-decimal-lts.Need-put-decima
   put-decimal-below t,
   put-decimal.Post,
 ) (put-decimal-at t) put-decimal.Post
-put-decimal-put-decimal-requires t c κs = 
+put-decimal-put-decimal-requires t c κs =
     let m = tens-more (c .before .before .before .args .k) (c .before .before .before .args .n) (c .before .if1 .left) (c .before .before .before .pre .1 .0) in
     let e = c .before .before .before .pre .0 in
     (omega arith, (m .1, large-first (c .before .before .before .args .k) (c .before .before .before .args .n) (c .before .if1 .left) (c .before .before .before .pre .1 .0) (c .before .before .before .pre .1 .1)))

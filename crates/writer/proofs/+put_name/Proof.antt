@@ -1,6 +1,6 @@
 -- `writer::put_name` meets its contract: the bytes before the last, and the last unless it is zero.
 use mathlib.Core.Path.{_≡_, _∙_}
-use Prim.Native.Nat.{_+_, _-_, _/_, _%_}
+use Prim.Native.Nat.{_+_, _-_}
 use native.Mathlib.Omega.{arith}
 use Rattle.writer.proofs.Puts.{put-nothing, put-as, put-length}
 use Rattle.writer.proofs.Digits.{name-empty, name-first, name-skipped, name-next, name-put}
@@ -46,7 +46,7 @@ put-name-put-name-requires : (t : ℕ) → put-name-lts.Need-put-name-requires (
   put-reads.Asked,
   put-reads.Learnt,
 ) (put-name-at t) put-name.Post
-put-name-put-name-requires t c κs = 
+put-name-put-name-requires t c κs =
     let z : c .before .before .before .args .k ≡ 0 → ⊥ = c .before .if1 .left in let e = c .before .before .before .pre .0 in
     (omega arith, name-first (c .before .before .before .args .k) (c .before .before .before .args .n) (omega arith) (c .before .before .before .pre .1))
 
