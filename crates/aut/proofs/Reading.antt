@@ -1,21 +1,18 @@
 -- The definition `lines` at a position, and what a line that meets no refusal keeps.
 use mathlib.Core.Path.{_≡_, refl}
 use mathlib.Core.List.{List}
-use mathlib.Core.Bool.{Bool, true, false, _&&_}
 use Prim.Native.Nat.{ℕ, zero, suc, _+_, _-_, _<_, _≤_}
 use native.Mathlib.Numerals.{sub-one}
 use native.Mathlib.Omega.{arith}
-use borrow.Author.Tests.{eq-eqb, ne-eqb, ltb-true}
-use lib.Dec.{ltb}
+use borrow.Author.Tests.{eq-eqb, ne-eqb}
 use lib.ListN.{length, drop, drop-of-length-le}
 use Rattle.tokens.specs.Parse.{got, off}
-use Rattle.names.specs.If.{if}
 use Rattle.tokens.specs.Lines.{line}
 use Rattle.tokens.specs.declared.Label.{Label}
 use Rattle.tokens.specs.declared.Label.the-variants.{Mark, Take, Send, Other}
 use Rattle.tokens.specs.declared.Line.{Line}
 use Rattle.behaviour.specs.declared.Behaviour.{Behaviour}
-use Rattle.aut.specs.Adding.{add, addLabel, check, checkLabel}
+use Rattle.aut.specs.Adding.{add, addLabel, check}
 use Rattle.aut.specs.File.{refuse, finish, lines}
 use Rattle.names.specs.Places.{here}
 
@@ -56,14 +53,3 @@ label-keeps b f g Other = (refl, omega arith)
 pub add-keeps : (b : Behaviour) (l : Line) → (add b l .states ≡ b .states) × (add b l .count ≤ b .count + 1)
 unfolding add
 add-keeps b l = label-keeps b (l .from) (l .to) (l .label)
-
--- a line that meets no refusal goes between states of the value
-pub check-low : (b : Behaviour) (l : Line) → check b l ≡ 0 → (l .from < b .states) × (l .to < b .states)
-unfolding check
-check-low b l e = go (ltb (l .from) (b .states)) (ltb (l .to) (b .states)) refl refl e
-  where
-    go : (t u : Bool) → ltb (l .from) (b .states) ≡ t → ltb (l .to) (b .states) ≡ u
-        → if (t && u) (checkLabel b (l .from) (l .to) (l .label)) 6 ≡ 0 → (l .from < b .states) × (l .to < b .states)
-    go true true p q h = (ltb-true _ _ p, ltb-true _ _ q)
-    go true false p q h = absurd (omega arith)
-    go false u p q h = absurd (omega arith)

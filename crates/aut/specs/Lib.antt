@@ -1,2 +1,8 @@
 pub mod Adding
 pub mod File
+pub mod Inserting
+pub mod Accepting
+pub mod Swapping
+pub mod Contents
+pub mod AnyOrder
+pub mod OneAnswer

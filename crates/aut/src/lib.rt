@@ -14,12 +14,12 @@ use tokens::Lined;
 ghost use mathlib.Core.Path.{_≡_};
 ghost use mathlib.Core.List.{_++_};
 ghost use mathlib.Core.Bool.{_&&_};
-ghost use lib.Dec.{eqb};
+ghost use lib.Dec.{eqb, ltb};
 ghost use Prim.Native.Nat.{_+_, _<_, _≤_};
 ghost use lib.ListN.{drop, take};
 ghost use Rattle.behaviour.specs.Limits.{mostStates, mostLines};
 ghost use Rattle.behaviour.specs.Sound.{before};
-ghost use Rattle.aut.specs.Adding.{insert, has, bare, add, check, addMark, addMessage, checkMessage};
+ghost use Rattle.aut.specs.Adding.{insert, has, bare, add, check, addMark, addMessage, checkMessage, checkLabel};
 ghost use Rattle.aut.specs.File.{refuse, markedFinished, finish, lines, file};
 
 // What reading gives. A refusal of number 0: the file is taken, and the value is its behaviour.
@@ -105,21 +105,11 @@ fn check_message(b: Behaviour, f: usize, other: u8, n: u64) -> u8
     0
 }
 
-// The refusal that a line of the shape meets, or 0.
-fn refusal_of(b: Behaviour, l: Line) -> u8
-    requires { ⌜ (b .states ≤ mostStates) × (b .count ≤ mostLines) ⌝ }
-    ensures { λ r. ⌜ r ≡ check b l ⌝ }
+// 7 to 10 for a label on a line between states of the value, or 0.
+fn label_refusal(b: Behaviour, from: usize, to: usize, label: Label) -> u8
+    requires { ⌜ (from < mostStates) × (b .count ≤ mostLines) ⌝ }
+    ensures { λ r. ⌜ r ≡ checkLabel b from to label ⌝ }
 {
-    let states = b.states as usize;
-    let from = l.from;
-    let to = l.to;
-    if states <= from {
-        return 6;
-    }
-    if states <= to {
-        return 6;
-    }
-    let label = l.label;
     match label {
         Label::Mark => {
             if from != to {
@@ -134,6 +124,30 @@ fn refusal_of(b: Behaviour, l: Line) -> u8
         Label::Send(n) => check_message(b, from, 1, n),
         Label::Other => 7,
     }
+}
+
+fn is_between(from: usize, to: usize, states: usize) -> bool
+    ensures { λ r. ⌜ r ≡ (ltb from states && ltb to states) ⌝ }
+{
+    if states <= from {
+        return false;
+    }
+    to < states
+}
+
+// The refusal that a line of the shape meets, or 0.
+fn refusal_of(b: Behaviour, l: Line) -> u8
+    requires { ⌜ (b .states ≤ mostStates) × (b .count ≤ mostLines) ⌝ }
+    ensures { λ r. ⌜ r ≡ check b l ⌝ }
+{
+    let states = b.states as usize;
+    let from = l.from;
+    let to = l.to;
+    let label = l.label;
+    if is_between(from, to, states) {
+        return label_refusal(b, from, to, label);
+    }
+    6
 }
 
 fn with_mark(b: Behaviour, f: usize) -> Behaviour

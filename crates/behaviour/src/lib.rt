@@ -235,7 +235,7 @@ fn is_settled(marks: PerState, signs: PerState, a: Messages, n: usize) -> bool
     true
 }
 
-fn one(m: u8) -> usize
+pub fn one(m: u8) -> usize
     ensures { λ r. ⌜ r ≡ if (eqb m 1) 1 0 ⌝ }
 {
     if m == 1 {

@@ -5,3 +5,4 @@ pub mod Tests
 pub mod Order
 pub mod Laws
 pub mod ByteOrder
+pub mod OneAnswer

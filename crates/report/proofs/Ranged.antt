@@ -76,12 +76,14 @@ module _ (b : Behaviour) (o : sound b ≡ true) (n : length (b .marks) ≡ lengt
       let r = both (leb (b .count + total (b .marks)) mostLines) _ (q .1) in
       let s = both (allBetween (b .states) (messages b)) _ (r .1) in
       let t = both (sorted (messages b)) _ (s .1) in
-      let u = both (allBlank (drop (b .count) (b .messages))) _ (t .1) in
-      (leb-true (b .states) mostStates (q .0), record {
-        some-state = leb-true 1 (b .states) (p .0);
-        ends = ends (b .states) (messages b) (s .0);
-        marks = λ x h. spoken (b .states) x (messages b) (s .0) (rw (zero-add x) at (marks-speak 0 (b .marks) (b .signs) (messages b) x n (u .1) h));
-      })
+      let u = both (allBlank (drop (b .count) (b .messages))) _ (t .1) in (
+        leb-true (b .states) mostStates (q .0),
+        record {
+          some-state = leb-true 1 (b .states) (p .0);
+          ends = ends (b .states) (messages b) (s .0);
+          marks = λ x h. spoken (b .states) x (messages b) (s .0) (rw (zero-add x) at (marks-speak 0 (b .marks) (b .signs) (messages b) x n (u .1) h));
+        },
+      )
 
 module _ (c s : Behaviour) (a : Ranged c) (b : Ranged s) where
   from-sound : (w : List ℕ) (p q : Stand) → Sound c s p → from (pair c s) (some p) w ≡ some q → Sound c s q

@@ -6,8 +6,11 @@ use mathlib.Core.Option.{Option, none, some}
 use Prim.Native.Nat.{ℕ, zero, suc}
 use native.Mathlib.Omega.{arith}
 use Rattle.behaviour.specs.declared.Behaviour.{Behaviour}
+use Rattle.behaviour.specs.SoundLaws.{Parts, parts}
 use Rattle.runs.specs.System as runs
 use Rattle.runs.specs.Rank.{from-snoc}
+use Rattle.stands.specs.declared.ClientState.{ClientState}
+use Rattle.stands.specs.declared.ServerState.{ServerState}
 use Rattle.stands.specs.declared.Stand.{Stand}
 use Rattle.stands.specs.Stands.{said, cause, start, step, pair}
 use Rattle.stands.specs.Stands as rules
@@ -15,7 +18,8 @@ use Rattle.stands.specs.Judgement.{compliant, Judged}
 use Rattle.compliance.specs.Labels.{few, labelled}
 use Rattle.verdict.specs.Answer.{BothSound}
 use Rattle.history.specs.Calls.{Call, message, rollback, Calls, opening}
-use Rattle.history.specs.Demand.{ClientPoint, ServerPoint, Demand}
+use Rattle.history.specs.Demand.{Seen, ClientPoint, ServerPoint, Demand}
+use Rattle.history.specs.Determined.{determined}
 use Rattle.history.specs.Played.{has, session}
 use Rattle.history.specs.Meets.{Steps, told, meets}
 use Rattle.session.specs.declared.Session.{Session}
@@ -24,7 +28,7 @@ use Rattle.session.specs.Opening.{opened, Begins}
 use Rattle.session.specs.Sides.{clientSide, serverSide, clientPoint, serverPoint}
 use Rattle.session.specs.Watched.{answered, handedBack, next, at, watched}
 use Rattle.session.specs.Steps.{speaks, moves, going, rolls, goes-back}
-use Rattle.session.specs.Range.{Sized, sized, Within, within-holds, start-within, message-within, rollback-within}
+use Rattle.session.specs.Range.{Within, within-stand, start-within, message-within, rollback-within}
 
 -- what holds of every session that comes up: a run leads there, and 15 is not given
 record Good (c s : Behaviour) (z : Session) : Type 0 where
@@ -35,7 +39,7 @@ record Good (c s : Behaviour) (z : Session) : Type 0 where
 module _ (c s : Behaviour) (sounds : BothSound c s) where
   no-fault : (z : Session) → Good c s z → fault c s (z .stand) ≡ 0
   unfolding fault
-  no-fault z g = rw (sounds .client, sounds .server, within-holds c s (z .stand) (g .within))
+  no-fault z g = rw (sounds .client, sounds .server, within-stand c s (z .stand) (g .within))
 
   abbrev kept : Option Stand → Option Session
   kept none = none
@@ -83,18 +87,18 @@ module _ (c s : Behaviour) (sounds : BothSound c s) where
   good-next : (z y : Session) (k : Call) → Good c s z → next c s z k ≡ some y → Good c s y
   good-next z y (message n) g e =
       let p = named-step z y n g e in
-      let l = labelled c s (few c s (omega (arith, a .few, b .few))) (z .stand) (y .stand) (p .0) (p .2) in
+      let l = labelled c s (few c s (omega (arith, a .most-lines, b .most-lines))) (z .stand) (y .stand) (p .0) (p .2) in
       one-more z y (l .0) g (l .1) (message-within c s a b (z .stand) (y .stand) (g .within) (p .0) (p .2))
     where
-      a : Sized c
-      a = sized c (sounds .client)
+      a : Parts c
+      a = parts c (sounds .client)
 
-      b : Sized s
-      b = sized s (sounds .server)
+      b : Parts s
+      b = parts s (sounds .server)
   good-next z y rollback g e =
       let r = rolled-step z y g e in
       one-more z y 255 g (by-255 (z .stand) (y .stand) r)
-          (rollback-within c s (sized c (sounds .client)) (sized s (sounds .server)) (z .stand) (y .stand) (g .within) r)
+      (rollback-within c s (parts c (sounds .client)) (parts s (sounds .server)) (z .stand) (y .stand) (g .within) r)
 
   -- no run reaches a bad stand
   module _ (safe : (w : List ℕ) → runs.ToBad (pair c s) w → ⊥) where
@@ -107,7 +111,7 @@ module _ (c s : Behaviour) (sounds : BothSound c s) where
     steps = record {
       Good = Good c s;
       begins = refl;
-      good = record { run = []; reached = refl; within = start-within c s (sized c (sounds .client)) (sized s (sounds .server)) };
+      good = record { run = []; reached = refl; within = start-within c s (parts c (sounds .client)) (parts s (sounds .server)) };
       good-next = good-next;
       speaks = λ z n m g e p. rw (by-message z n g, e) (kept-has (rules.message c s (z .stand) m) (speaks c s (z .stand) m p));
       moved = λ z y n g e. let p = named-step z y n g e in (p .0, p .1, moves c s (z .stand) (p .0) (y .stand) (p .2));
@@ -135,3 +139,15 @@ module _ (c s : Behaviour) (z : Session) (b : Begins c s z) where
 
   pub server-told : (h : Calls) → ServerPoint (clientSide c) (serverSide s) (watched c s z) h (serverPoint (session (next c s) z h .stand .serverpoint))
   server-told h = told named (clientSide c) (serverSide s) (next c s) z at by-steps h .server
+
+  -- on its own pair no call gives 13 or 15: one that is not granted gives 16 or 17
+  pub faultless : (h : Calls) → fault c s (session (next c s) z h .stand) ≡ 0
+  unfolding steps
+  faultless h =
+      let k = steps c s (b .sounds) (safe-of c s (b .stands) (b .judged)) in
+      rw (b .begins) (no-fault c s (b .sounds) (session (next c s) opened h) (told named (clientSide c) (serverSide s) (next c s) opened at k h .good))
+
+  -- any other session that meets demand 3 on this pair grants the same calls and stands at the same states
+  pub only-one : (w : Seen ClientState ServerState) → Demand named (clientSide c) (serverSide s) w → (h : Calls)
+      → (w .client h ≡ watched c s z .client h) × (w .server h ≡ watched c s z .server h) × ((k : Call) → w .granted h k ≡ watched c s z .granted h k)
+  only-one w d = determined named (clientSide c) (serverSide s) w (watched c s z) d demand3

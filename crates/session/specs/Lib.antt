@@ -1,5 +1,6 @@
 pub mod Answers
 pub mod Opening
+pub mod OneAnswer
 pub mod Sides
 pub mod Watched
 pub mod Steps

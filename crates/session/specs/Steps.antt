@@ -10,6 +10,7 @@ use borrow.Author.Tests.{eqb-true, eq-eqb}
 use lib.Dec.{eqb}
 use Rattle.names.specs.If.{if}
 use Rattle.behaviour.specs.declared.Behaviour.{Behaviour}
+use Rattle.behaviour.specs.SoundLaws.{no, both}
 use Rattle.stands.specs.declared.ClientState.{ClientState}
 use Rattle.stands.specs.declared.ServerState.{ServerState}
 use Rattle.stands.specs.declared.ClientPoint.{ClientPoint}
@@ -23,9 +24,6 @@ use Rattle.history.specs.Played.{has}
 use Rattle.history.specs.Meets.{Moved, Rolled}
 use Rattle.session.specs.Sides.{clientSide, serverSide, clientPoint, serverPoint, standing}
 
-never : {P : Type 0} → false ≡ true → P
-never e = absurd (let z : _≡_ {A = ℕ} 0 1 = cc in omega arith)
-
 or-true : (a b : Bool) → (a || b) ≡ true → (a ≡ true) ⊎ (b ≡ true)
 or-true true b e = inl refl
 or-true false b e = inr e
@@ -33,10 +31,6 @@ or-true false b e = inr e
 or-right : (a b : Bool) → b ≡ true → (a || b) ≡ true
 or-right true b e = refl
 or-right false b e = e
-
-pub both-true : (a b : Bool) → (a && b) ≡ true → (a ≡ true) × (b ≡ true)
-both-true true b e = (refl, e)
-both-true false b e = never e
 
 -- names among two lists, and among all of one
 among-split : (n : ℕ) (l k : List ℕ) → among n (l ++ k) ≡ (among n l || among n k)
@@ -54,8 +48,8 @@ among-first n l = rw (eq-eqb n n refl)
 
 within-all : (l k : List ℕ) → within l k ≡ true → (n : ℕ) → among n l ≡ true → among n k ≡ true
 unfolding within among
-within-all [] k e n f = never f
-within-all (m ∷ l) k e n f = let p = both-true (among m k) (within l k) e in go (or-true (eqb n m) (among n l) f) (p .0) (within-all l k (p .1) n)
+within-all [] k e n f = no f
+within-all (m ∷ l) k e n f = let p = both (among m k) (within l k) e in go (or-true (eqb n m) (among n l) f) (p .0) (within-all l k (p .1) n)
   where
     go : (eqb n m ≡ true) ⊎ (among n l ≡ true) → among m k ≡ true → (among n l ≡ true → among n k ≡ true) → among n k ≡ true
     go (inl g) a r = rw (eqb-true n m g) a
@@ -77,7 +71,7 @@ module _ (b : Behaviour) (x : ℕ) (d : Behaviour) (y n : ℕ) where
     where
       go : (t : Bool) → within (sends b x) (takes d y) ≡ t → among n (if t (sends b x) []) ≡ true → Sent
       go true e f = (f, within-all (sends b x) (takes d y) e)
-      go false e f = never f
+      go false e f = no f
 
   sent-offered : Sent → among n (offers b x d y) ≡ true
   sent-offered p = rw (all-within (sends b x) (takes d y) (p .1)) (p .0)

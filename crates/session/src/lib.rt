@@ -1,15 +1,10 @@
 // Sessions by value of pairs that may be joined. A call takes a session and the pair, and hands the next session back.
-use behaviour::PerState;
+use behaviour::Behaviour;
 use behaviour::Refusal;
-use stands::ClientPoint;
-use stands::ClientState;
-use stands::ServerPoint;
-use stands::ServerState;
 use stands::Stand;
+use steps::Next;
 ghost use mathlib.Core.Path.{_≡_};
-ghost use mathlib.Core.Bool.{_&&_};
-ghost use lib.Dec.{ltb};
-ghost use Rattle.session.specs.Answers.{refused, returns, clientReturns, serverReturns, faultOf};
+ghost use Rattle.session.specs.Answers.{refused, fault, byStep, messaged, rolledBack};
 
 // Where both sides stand, with their return points: four small numbers.
 pub struct Session {
@@ -25,61 +20,61 @@ pub enum Answer {
 fn refuse(number: u8) -> Answer
     ensures { λ r. ⌜ r ≡ refused number ⌝ }
 {
-    Answer::Refused(Refusal { number, place: 0 })
-}
-
-// A marked state among so many.
-fn is_return_point(states: u8, marks: PerState, x: u8) -> bool
-    ensures { λ r. ⌜ r ≡ returns states marks x ⌝ }
-{
-    if states <= x {
-        return false;
-    }
-    let at = behaviour::wide(x);
-    if behaviour::STATES <= at {
-        return false;
-    }
-    marks[at] == 1
-}
-
-fn client_holds(states: u8, marks: PerState, x: ClientState, held: ClientPoint) -> bool
-    ensures { λ r. ⌜ r ≡ (ltb (x .0) states && clientReturns states marks held) ⌝ }
-{
-    let at = x.0;
-    if states <= at {
-        return false;
-    }
-    match held {
-        ClientPoint::Nowhere => true,
-        ClientPoint::To(back) => is_return_point(states, marks, back.0),
-    }
-}
-
-fn server_holds(states: u8, marks: PerState, y: ServerState, held: ServerPoint) -> bool
-    ensures { λ r. ⌜ r ≡ (ltb (y .0) states && serverReturns states marks held) ⌝ }
-{
-    let at = y.0;
-    if states <= at {
-        return false;
-    }
-    match held {
-        ServerPoint::Nowhere => true,
-        ServerPoint::To(back) => is_return_point(states, marks, back.0),
-    }
+    Answer::Refused(behaviour::refuse(number, 0))
 }
 
 // 13, 15, or 0 for neither.
-fn fault_of(client: bool, server: bool, held: bool) -> u8
-    ensures { λ r. ⌜ r ≡ faultOf client server held ⌝ }
+fn fault_in(client: Behaviour, server: Behaviour, p: Stand) -> u8
+    ensures { λ r. ⌜ r ≡ fault client server p ⌝ }
 {
-    if !client {
+    if !behaviour::is_sound(client) {
         return 13;
     }
-    if !server {
+    if !behaviour::is_sound(server) {
         return 13;
     }
-    if !held {
+    if !steps::is_stand(client, server, p) {
         return 15;
     }
     0
+}
+
+// The next session, or the refusal where there is no step.
+fn answer_of(step: Next, number: u8) -> Answer
+    ensures { λ r. ⌜ r ≡ byStep number step ⌝ }
+{
+    match step {
+        Next::Off => refuse(number),
+        Next::Stand(p) => Answer::Next(Session { stand: p }),
+    }
+}
+
+impl Session {
+    // Both sides move by the message of this name.
+    pub fn message(self, client: Behaviour, server: Behaviour, name: &[u8]) -> Answer
+        ensures { λ r. ⌜ r ≡ messaged client server self (now (name .entry)) ⌝ }
+    {
+        let p = self.stand;
+        let f = fault_in(client, server, p);
+        if f != 0 {
+            return refuse(f);
+        }
+        let n = names::number_of(name, 0);
+        if n == 0 {
+            return refuse(16);
+        }
+        answer_of(steps::message_step(client, server, p, n), 16)
+    }
+
+    // Both sides go back to their return points, which become none.
+    pub fn rollback(self, client: Behaviour, server: Behaviour) -> Answer
+        ensures { λ r. ⌜ r ≡ rolledBack client server self ⌝ }
+    {
+        let p = self.stand;
+        let f = fault_in(client, server, p);
+        if f != 0 {
+            return refuse(f);
+        }
+        answer_of(steps::rollback_step(p), 17)
+    }
 }

@@ -35,9 +35,9 @@ abbrev pub part : ℕ → ℕ → List ℕ → List ℕ
 part f t s = take (t - f) (drop f s)
 
 -- a text from f, by the place of its closing quote
-abbrev pub textOf : List ℕ → ℕ → Step → Got (List ℕ)
-textOf s f (step.To q) = got (part f q s) (drop (q + 1) s)
-textOf s f step.Off = off
+abbrev pub closedOf : List ℕ → ℕ → Step → Got (List ℕ)
+closedOf s f (step.To q) = got (part f q s) (drop (q + 1) s)
+closedOf s f step.Off = off
 
 abbrev pub Within : List ℕ → ℕ → Step → Type 0
 Within s f (step.To q) = (f ≤ q) × (q < length s)

@@ -3,7 +3,7 @@ ghost use mathlib.Core.Path.{_≡_};
 ghost use Prim.Native.Nat.{_+_, _<_, _≤_};
 ghost use lib.ListN.{drop, length};
 ghost use Rattle.tokens.specs.Tokens.{spaces, byte, number, digits, word, label, text, labelled};
-ghost use Rattle.tokens.specs.Seen.{stepOf, stepIn, numOf, textOf, Within, quotedOf, linedOf, linedIn, headedOf, headedIn};
+ghost use Rattle.tokens.specs.Seen.{stepOf, stepIn, numOf, closedOf, Within, quotedOf, linedOf, linedIn, headedOf, headedIn};
 ghost use Rattle.tokens.specs.Lines.{after, ending, line, head};
 
 pub enum Step {
@@ -181,7 +181,7 @@ fn read_label(b: &[u8]) -> Label
 
 // The place of the quote that closes a text from `from` on.
 fn closing(s: &[u8], from: usize) -> Step
-    ensures { λ r. ⌜ (textOf (now (s .entry)) from r ≡ text (drop from (now (s .entry)))) × Within (now (s .entry)) from r ⌝ }
+    ensures { λ r. ⌜ (closedOf (now (s .entry)) from r ≡ text (drop from (now (s .entry)))) × Within (now (s .entry)) from r ⌝ }
 {
     let mut i = from;
     while i < s.len() {

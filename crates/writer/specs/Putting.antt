@@ -7,8 +7,8 @@ use lib.ListN.{length}
 use lib.Seq.{sets}
 
 -- the bytes w end below 2^16
-abbrev pub Short : ℕ → List ℕ → Type 0
-Short at w = at + length w ≤ 65535
+pub record Short (at : ℕ) (w : List ℕ) : Type 0 where
+  pub ends : at + length w ≤ 65535
 
 -- w put into the buffer b at the place at: the place after it is r, and the buffer is then e
 pub record Put (b : List ℕ) (at : ℕ) (w : List ℕ) (r : ℕ) (e : List ℕ) : Type 0 where

@@ -48,4 +48,19 @@ unfolding add
 returns-4 c = rw (c .enum-told2 .given .1)
 
 pub added-spec : {M : Type 1} → statement M
-added-spec = tie.close (tie.spec cast-from cast-to enum-told with-mark-requires enum-known-label with-message-requires enum-known-label-2 with-message-requires-2 enum-told-2 returns returns-2 returns-3 returns-4)
+added-spec =
+    tie.close
+    (tie.spec
+    cast-from
+    cast-to
+    enum-told
+    with-mark-requires
+    enum-known-label
+    with-message-requires
+    enum-known-label-2
+    with-message-requires-2
+    enum-told-2
+    returns
+    returns-2
+    returns-3
+    returns-4)

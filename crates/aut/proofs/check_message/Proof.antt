@@ -34,4 +34,13 @@ returns-3 c =
     simp (ne-eqb (getD (a .t1 .signs) (a .f) 0) (a .other) (c .before .before .before .if1 .left), sym (c .before .is-known .ensures) ∙ c .if2 .left)
 
 pub check-message-spec : {M : Type 1} → statement M
-check-message-spec = tie.close (tie.spec element-copy-out-if1 returns cast-count cast-from is-known-requires returns-2 returns-3)
+check-message-spec =
+    tie.close
+    (tie.spec
+    element-copy-out-if1
+    returns
+    cast-count
+    cast-from
+    is-known-requires
+    returns-2
+    returns-3)

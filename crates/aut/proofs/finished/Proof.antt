@@ -24,4 +24,11 @@ returns-2 : tie.Need-returns-2
 returns-2 c = let k = c .before .marked-finished in rw (sym (k .ensures), le-ltb (k .result) mostStates (c .if1 .left))
 
 pub finished-spec : {M : Type 1} → statement M
-finished-spec = tie.close (tie.spec marked-finished-requires cast-refused refused-requires returns returns-2)
+finished-spec =
+    tie.close
+    (tie.spec
+    marked-finished-requires
+    cast-refused
+    refused-requires
+    returns
+    returns-2)

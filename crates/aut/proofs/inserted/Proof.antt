@@ -1,9 +1,10 @@
--- `aut::inserted` meets its contract.
+-- `aut::inserted` meets its contract. The loop's invariant: what was passed, and the message in the hand put in among the rest, is what is asked for.
 use mathlib.Core.Path.{_≡_, sym, _∙_}
 use Prim.Native.Nat.{_-_, _+_, _≤_}
 use native.Mathlib.Omega.{arith}
 use mathlib.Core.List.{_++_}
 use lib.ListN.{length, drop, take, length-set}
+use Rattle.behaviour.specs.Limits.{mostLines}
 use Rattle.aut.specs.Adding.{insert}
 use Rattle.aut.proofs.Insert.{rest, insert-start, insert-in, insert-by, insert-end}
 use borrow.Author.Needs.{needs}
@@ -11,7 +12,7 @@ use Rattle.aut.proofs.inserted.Statement.{statement}
 use Rattle.aut.proofs.inserted.Tie as tie
 
 abbrev Inv-loop : tie.InvT-loop
-Inv-loop n out₀ held₀ i₀ out held i = (insert held₀ (take n out₀) ++ drop (n + 1) out₀ ≡ take i out ++ rest n held out i) × (length out ≡ 96) × (i ≤ n)
+Inv-loop n out₀ held₀ i₀ out held i = (insert held₀ (take n out₀) ++ drop (n + 1) out₀ ≡ take i out ++ rest n held out i) × (length out ≡ mostLines) × (i ≤ n)
 
 abbrev μ-loop : tie.MeasureT-loop
 μ-loop n out₀ held₀ i₀ out held i = n - i
@@ -41,7 +42,13 @@ loop-less : tie.Need-loop-less Inv-loop μ-loop
 loop-less c = search needs
 
 loop-again : tie.Need-loop-again Inv-loop μ-loop
-loop-again c = let l = c .before .before .before .before .loop in (l .inv .0 ∙ insert-in _ _ _ _ (c .before .before .before .loop-test .taken) (omega arith) (sym (c .before .earlier .ensures) ∙ c .if1 .taken), length-set (l .out) (l .i) (l .held) ∙ l .inv .1, omega arith)
+loop-again c =
+    let p = c .before .before .before in
+    let l = p .before .loop in (
+      l .inv .0 ∙ insert-in _ _ _ _ (p .loop-test .taken) (omega arith) (sym (c .before .earlier .ensures) ∙ c .if1 .taken),
+      length-set (l .out) (l .i) (l .held) ∙ l .inv .1,
+      omega arith,
+    )
 
 add-i-2 : tie.Need-add-i-2 Inv-loop μ-loop
 add-i-2 c = search needs
@@ -50,7 +57,10 @@ loop-less-2 : tie.Need-loop-less-2 Inv-loop μ-loop
 loop-less-2 c = search needs
 
 loop-again-2 : tie.Need-loop-again-2 Inv-loop μ-loop
-loop-again-2 c = let l = c .before .before .before .before .loop in (l .inv .0 ∙ insert-by _ _ _ _ (c .before .before .before .loop-test .taken) (omega arith) (sym (c .before .earlier .ensures) ∙ c .if1 .left), l .inv .1, omega arith)
+loop-again-2 c =
+    let p = c .before .before .before in
+    let l = p .before .loop in
+    (l .inv .0 ∙ insert-by _ _ _ _ (p .loop-test .taken) (omega arith) (sym (c .before .earlier .ensures) ∙ c .if1 .left), l .inv .1, omega arith)
 
 mul-out-2 : tie.Need-mul-out-2 Inv-loop μ-loop
 mul-out-2 c = search needs

@@ -81,4 +81,24 @@ returns-7 c =
     ∙ file-on _ (o .before .before .before .if1 .left) _ _ (opened o) (c .before .before .before .before .if2 .left) (c .before .before .before .if3 .left) (c .before .before .if4 .left) (c .before .if5 .left)
 
 pub read-file-spec : {M : Type 1} → statement M
-read-file-spec = tie.close (tie.spec refused-requires returns read-head-requires enum-known-h enum-told refused-requires-2 returns-2 refused-requires-3 returns-3 refused-requires-4 returns-4 refused-requires-5 returns-5 refused-requires-6 returns-6 cast-read-lines read-lines-requires returns-7)
+read-file-spec =
+    tie.close
+    (tie.spec
+    refused-requires
+    returns
+    read-head-requires
+    enum-known-h
+    enum-told
+    refused-requires-2
+    returns-2
+    refused-requires-3
+    returns-3
+    refused-requires-4
+    returns-4
+    refused-requires-5
+    returns-5
+    refused-requires-6
+    returns-6
+    cast-read-lines
+    read-lines-requires
+    returns-7)

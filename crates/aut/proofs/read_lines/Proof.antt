@@ -10,8 +10,9 @@ use Rattle.tokens.specs.Seen.{linedOf}
 use Rattle.behaviour.specs.declared.Behaviour.{Behaviour}
 use Rattle.behaviour.specs.Limits.{mostStates, mostLines}
 use Rattle.aut.specs.Adding.{bare}
+use Rattle.aut.specs.Accepting.{low}
 use Rattle.aut.specs.File.{lines}
-use Rattle.aut.proofs.Reading.{lines-short, lines-bad, lines-more, lines-extra, lines-done, add-keeps, check-low}
+use Rattle.aut.proofs.Reading.{lines-short, lines-bad, lines-more, lines-extra, lines-done, add-keeps}
 use Rattle.aut.proofs.read_lines.Statement.{statement}
 use Rattle.aut.proofs.read_lines.Tie as tie
 
@@ -74,7 +75,7 @@ added-requires : tie.Need-added-requires Inv-loop μ-loop
 added-requires c κs =
     let b = c .before .before .before .before .before .before .before .loop .b in
     let l = c .before .before .before .l .given .0 .0 in
-    let f = check-low b l (sym (c .before .refusal-of .ensures) ∙ c .if1 .left) in
+    let f = low b l (sym (c .before .refusal-of .ensures) ∙ c .if1 .left) in
     omega arith
 
 add-p : tie.Need-add-p Inv-loop μ-loop
@@ -112,4 +113,27 @@ returns-4 : tie.Need-returns-4 Inv-loop μ-loop
 returns-4 c = c .finished .ensures ∙ lines-done _ _ _ _ _ (c .before .before .loop-test .left) (c .before .if2 .left) ∙ sym (c .before .before .before .loop .inv .0)
 
 pub read-lines-spec : {M : Type 1} → statement M
-read-lines-spec = tie.close (tie.spec Inv-loop μ-loop nothing-requires loop-holds read-line-requires enum-known-l enum-told refused-requires returns refusal-of-requires refused-requires-2 returns-2 added-requires add-p sub-t loop-less loop-again refused-requires-3 returns-3 finished-requires returns-4)
+read-lines-spec =
+    tie.close
+    (tie.spec
+    Inv-loop
+    μ-loop
+    nothing-requires
+    loop-holds
+    read-line-requires
+    enum-known-l
+    enum-told
+    refused-requires
+    returns
+    refusal-of-requires
+    refused-requires-2
+    returns-2
+    added-requires
+    add-p
+    sub-t
+    loop-less
+    loop-again
+    refused-requires-3
+    returns-3
+    finished-requires
+    returns-4)

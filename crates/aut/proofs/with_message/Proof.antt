@@ -34,4 +34,12 @@ returns c =
     (c .inserted .ensures)
 
 pub with-message-spec : {M : Type 1} → statement M
-with-message-spec = tie.close (tie.spec cast-f cast-used inserted-requires element-write-r add-r returns)
+with-message-spec =
+    tie.close
+    (tie.spec
+    cast-f
+    cast-used
+    inserted-requires
+    element-write-r
+    add-r
+    returns)

@@ -1,4 +1,4 @@
--- `tokens::closing` meets its contract.
+-- `tokens::closing` meets its contract. The loop's invariant: the bytes passed stand before the text that is left.
 use mathlib.Core.Path.{_≡_, sym, _∙_}
 use Prim.Native.Nat.{_-_, _≤_}
 use native.Mathlib.Omega.{arith}
@@ -23,10 +23,16 @@ shared-slice-read-b : tie.Need-shared-slice-read-b Inv-loop μ-loop
 shared-slice-read-b c = search needs
 
 returns : tie.Need-returns Inv-loop μ-loop
-returns c = (text-quote _ (c .before .before .before .before .args .from) _ (c .before .before .loop-test .taken) (c .if1 .taken) ∙ sym (c .before .before .before .loop .inv .0), search needs)
+returns c =
+    let p = c .before .before in
+    let l = p .before .loop in
+    (text-quote _ (p .before .before .args .from) _ (p .loop-test .taken) (c .if1 .taken) ∙ sym (l .inv .0), search needs)
 
 returns-2 : tie.Need-returns-2 Inv-loop μ-loop
-returns-2 c = (text-lf _ (c .before .before .before .before .before .args .from) _ (c .before .before .before .loop-test .taken) (c .if2 .taken) ∙ sym (c .before .before .before .before .loop .inv .0), tt)
+returns-2 c =
+    let p = c .before .before .before in
+    let l = p .before .loop in
+    (text-lf _ (p .before .before .args .from) _ (p .loop-test .taken) (c .if2 .taken) ∙ sym (l .inv .0), tt)
 
 add-i : tie.Need-add-i Inv-loop μ-loop
 add-i c = search needs
@@ -35,7 +41,10 @@ loop-less : tie.Need-loop-less Inv-loop μ-loop
 loop-less c = search needs
 
 loop-again : tie.Need-loop-again Inv-loop μ-loop
-loop-again c = let l = c .before .before .before .before .loop in (l .inv .0 ∙ text-more _ (c .before .before .before .before .before .args .from) _ (l .inv .1) (c .before .before .before .loop-test .taken) (c .before .if1 .left) (c .if2 .left), omega arith)
+loop-again c =
+    let p = c .before .before .before in
+    let l = p .before .loop in
+    (l .inv .0 ∙ text-more _ (p .before .before .args .from) _ (l .inv .1) (p .loop-test .taken) (c .before .if1 .left) (c .if2 .left), omega arith)
 
 returns-3 : tie.Need-returns-3 Inv-loop μ-loop
 returns-3 c = (text-end _ (c .before .before .args .from) _ (c .loop-test .left) ∙ sym (c .before .loop .inv .0), tt)

@@ -16,7 +16,7 @@ enum-told : tie.Need-enum-told
 enum-told c = search needs
 
 returns : tie.Need-returns
-returns c = rw (sym (c .before .before .after-spaces .ensures .0) ∙ ap (stepOf (c .before .before .before .before .args .s .now)) (c .enum-told .given .1))
+returns c = let s = c .before .before .before .before .args .s .now in rw (sym (c .before .before .after-spaces .ensures .0) ∙ ap (stepOf s) (c .enum-told .given .1))
 
 skip-requires : tie.Need-skip-requires
 skip-requires c κs = search needs
@@ -25,7 +25,10 @@ read-quoted-requires : tie.Need-read-quoted-requires
 read-quoted-requires c κs = search needs
 
 returns-2 : tie.Need-returns-2
-returns-2 c = rw (sym (c .before .before .before .before .before .after-spaces .ensures .0) ∙ ap (stepOf (c .before .before .before .before .before .before .before .args .s .now)) (c .before .before .before .n .given .1)) (c .read-quoted .ensures ∙ ap labelled (c .before .skip .ensures))
+returns-2 c =
+    let s = c .before .before .before .before .before .before .before .args .s .now in
+    rw (sym (c .before .before .before .before .before .after-spaces .ensures .0) ∙ ap (stepOf s) (c .before .before .before .n .given .1))
+    (c .read-quoted .ensures ∙ ap labelled (c .before .skip .ensures))
 
 pub label-after-spec : {M : Type 1} → statement M
 label-after-spec =

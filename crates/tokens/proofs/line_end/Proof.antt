@@ -15,13 +15,16 @@ enum-told : tie.Need-enum-told
 enum-told c = search needs
 
 returns : tie.Need-returns
-returns c = (rw (sym (c .before .before .after-spaces .ensures .0) ∙ ap (stepOf (c .before .before .before .before .args .s .now)) (c .enum-told .given .1)), tt)
+returns c = let s = c .before .before .before .before .args .s .now in (rw (sym (c .before .before .after-spaces .ensures .0) ∙ ap (stepOf s) (c .enum-told .given .1)), tt)
 
 after-spaces-requires-2 : tie.Need-after-spaces-requires-2
 after-spaces-requires-2 c κs = search needs
 
 returns-2 : tie.Need-returns-2
-returns-2 c = (rw (sym (c .before .before .before .before .after-spaces .ensures .0) ∙ ap (stepOf (c .before .before .before .before .before .before .args .s .now)) (c .before .before .n .given .1)) (c .after-spaces2 .ensures .0), c .after-spaces2 .ensures .1)
+returns-2 c =
+    let s = c .before .before .before .before .before .before .args .s .now in
+    let e = c .after-spaces2 .ensures in
+    (rw (sym (c .before .before .before .before .after-spaces .ensures .0) ∙ ap (stepOf s) (c .before .before .n .given .1)) (e .0), e .1)
 
 pub line-end-spec : {M : Type 1} → statement M
 line-end-spec =

@@ -1,4 +1,4 @@
--- `tokens::literal` meets its contract.
+-- `tokens::literal` meets its contract. The loop's invariant: the rest of the word is to be read from here.
 use mathlib.Core.Path.{_≡_, sym, ap, _∙_}
 use Prim.Native.Nat.{_-_}
 use lib.ListN.{length, drop}
@@ -31,7 +31,9 @@ enum-told : tie.Need-enum-told Inv-loop μ-loop
 enum-told c = search needs
 
 returns : tie.Need-returns Inv-loop μ-loop
-returns c = let b = c .before .before .before .before in word-off _ _ _ (b .loop-test .taken) (sym (c .before .before .exact .ensures .0) ∙ ap (stepOf _) (c .enum-told .given .1)) ∙ sym (b .before .loop .inv)
+returns c =
+    let p = c .before .before .before .before in
+    word-off _ _ _ (p .loop-test .taken) (sym (c .before .before .exact .ensures .0) ∙ ap (stepOf _) (c .enum-told .given .1)) ∙ sym (p .before .loop .inv)
 
 add-j : tie.Need-add-j Inv-loop μ-loop
 add-j c = search needs
@@ -40,7 +42,10 @@ loop-less : tie.Need-loop-less Inv-loop μ-loop
 loop-less c = search needs
 
 loop-again : tie.Need-loop-again Inv-loop μ-loop
-loop-again c = let b = c .before .before .before .before .before in b .before .loop .inv ∙ word-on _ _ _ _ (b .loop-test .taken) (sym (c .before .before .before .exact .ensures .0) ∙ ap (stepOf _) (c .before .n .given .1))
+loop-again c =
+    let p = c .before .before .before .before .before in
+    p .before .loop .inv
+    ∙ word-on _ _ _ _ (p .loop-test .taken) (sym (c .before .before .before .exact .ensures .0) ∙ ap (stepOf _) (c .before .n .given .1))
 
 returns-2 : tie.Need-returns-2 Inv-loop μ-loop
 returns-2 c = word-end _ _ _ (c .loop-test .left) ∙ sym (c .before .loop .inv)

@@ -18,19 +18,26 @@ at-des : (c : tie.After-a) → whole (c .before .before .before .before .before)
 unfolding head
 at-des c = let s = c .before .before .before .before .before .args .s .now in rw (sym (c .before .before .literal .ensures) ∙ ap (stepOf s) (c .a .given .1))
 
-at-start : (c : tie.After-start) → whole (c .before .before .before .before .before .before .before .before .before) ≡ afterStart (c .start .given .0 .0) (drop (c .start .given .0 .1 .0) (c .before .before .before .before .before .before .before .before .before .args .s .now))
+at-start : (c : tie.After-start)
+    → let a = c .before .before .before .before .before .before .before .before .before in
+    whole a ≡ afterStart (c .start .given .0 .0) (drop (c .start .given .0 .1 .0) (a .args .s .now))
 at-start c =
     let s = c .before .before .before .before .before .before .before .before .before .args .s .now in
     at-des (c .before .before .before .before) ∙ rw (sym (c .before .before .number-after .ensures) ∙ ap (numOf s) (c .start .given .1))
 
 at-lines : (c : tie.After-lines)
-    → whole (c .before .before .before .before .before .before .before .before .before .before .before .before .before) ≡ afterLines (c .before .before .before .before .start .given .0 .0) (c .lines .given .0 .0) (drop (c .lines .given .0 .1 .0) (c .before .before .before .before .before .before .before .before .before .before .before .before .before .args .s .now))
+    → let a = c .before .before .before .before .before .before .before .before .before .before .before .before .before in
+    let z = c .before .before .before .before .start .given .0 .0 in
+    whole a ≡ afterLines z (c .lines .given .0 .0) (drop (c .lines .given .0 .1 .0) (a .args .s .now))
 at-lines c =
     let s = c .before .before .before .before .before .before .before .before .before .before .before .before .before .args .s .now in
     at-start (c .before .before .before .before) ∙ rw (sym (c .before .before .number-after2 .ensures) ∙ ap (numOf s) (c .lines .given .1))
 
 at-states : (c : tie.After-states)
-    → whole (c .before .before .before .before .before .before .before .before .before .before .before .before .before .before .before .before .before) ≡ ends (record { start = c .before .before .before .before .before .before .before .before .start .given .0 .0; lines = c .before .before .before .before .lines .given .0 .0; states = c .states .given .0 .0 }) (drop (c .states .given .0 .1 .0) (c .before .before .before .before .before .before .before .before .before .before .before .before .before .before .before .before .before .args .s .now))
+    → let a = c .before .before .before .before .before .before .before .before .before .before .before .before .before .before .before .before .before in
+    let l = c .before .before .before .before in
+    let z = l .before .before .before .before .start .given .0 .0 in
+    whole a ≡ ends (record { start = z; lines = l .lines .given .0 .0; states = c .states .given .0 .0 }) (drop (c .states .given .0 .1 .0) (a .args .s .now))
 at-states c =
     let s = c .before .before .before .before .before .before .before .before .before .before .before .before .before .before .before .before .before .args .s .now in
     at-lines (c .before .before .before .before) ∙ rw (sym (c .before .before .number-after3 .ensures) ∙ ap (numOf s) (c .states .given .1))

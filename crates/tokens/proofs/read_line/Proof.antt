@@ -19,19 +19,27 @@ at-bracket : (c : tie.After-a) → whole (c .before .before .before .before) ≡
 unfolding line
 at-bracket c = let s = c .before .before .before .before .args .s .now in rw (sym (c .before .before .exact .ensures .0) ∙ ap (stepOf s) (c .a .given .1))
 
-at-from : (c : tie.After-from) → whole (c .before .before .before .before .before .before .before .before .before) ≡ afterFrom (c .from .given .0 .0) (drop (c .from .given .0 .1 .0) (c .before .before .before .before .before .before .before .before .before .args .s .now))
+at-from : (c : tie.After-from)
+    → let a = c .before .before .before .before .before .before .before .before .before in
+    whole a ≡ afterFrom (c .from .given .0 .0) (drop (c .from .given .0 .1 .0) (a .args .s .now))
 at-from c =
     let s = c .before .before .before .before .before .before .before .before .before .args .s .now in
     at-bracket (c .before .before .before .before .before)
     ∙ rw (ap number (sym (c .before .before .before .skip .ensures)) ∙ sym (c .before .before .read-number .ensures) ∙ ap (numOf s) (c .from .given .1))
 
-at-label : (c : tie.After-label) → whole (c .before .before .before .before .before .before .before .before .before .before .before .before .before) ≡ afterLabel (c .before .before .before .before .from .given .0 .0) (c .label .given .0 .0) (drop (c .label .given .0 .1 .0) (c .before .before .before .before .before .before .before .before .before .before .before .before .before .args .s .now))
+at-label : (c : tie.After-label)
+    → let a = c .before .before .before .before .before .before .before .before .before .before .before .before .before in
+    let f = c .before .before .before .before .from .given .0 .0 in
+    whole a ≡ afterLabel f (c .label .given .0 .0) (drop (c .label .given .0 .1 .0) (a .args .s .now))
 at-label c =
     let s = c .before .before .before .before .before .before .before .before .before .before .before .before .before .args .s .now in
     at-from (c .before .before .before .before) ∙ rw (sym (c .before .before .label-after .ensures) ∙ ap (quotedOf s) (c .label .given .1))
 
 at-to : (c : tie.After-to)
-    → whole (c .before .before .before .before .before .before .before .before .before .before .before .before .before .before .before .before .before) ≡ ends (record { from = c .before .before .before .before .before .before .before .before .from .given .0 .0; label = c .before .before .before .before .label .given .0 .0; to = c .to .given .0 .0 }) (drop (c .to .given .0 .1 .0) (c .before .before .before .before .before .before .before .before .before .before .before .before .before .before .before .before .before .args .s .now))
+    → let a = c .before .before .before .before .before .before .before .before .before .before .before .before .before .before .before .before .before in
+    let l = c .before .before .before .before in
+    let f = l .before .before .before .before .from .given .0 .0 in
+    whole a ≡ ends (record { from = f; label = l .label .given .0 .0; to = c .to .given .0 .0 }) (drop (c .to .given .0 .1 .0) (a .args .s .now))
 at-to c =
     let s = c .before .before .before .before .before .before .before .before .before .before .before .before .before .before .before .before .before .args .s .now in
     at-label (c .before .before .before .before) ∙ rw (sym (c .before .before .number-after .ensures) ∙ ap (numOf s) (c .to .given .1))

@@ -34,8 +34,8 @@ read-digits-requires c κs = search needs
 
 returns-5 : tie.Need-returns-5
 returns-5 c =
-    c .read-digits .ensures
-    ∙ number-more _ _ (c .before .before .before .before .before .if1 .left) (c .before .before .before .if2 .left) (c .before .before .if3 .left) (c .before .if4 .left)
+    let p = c .before .before in
+    c .read-digits .ensures ∙ number-more _ _ (p .before .before .before .if1 .left) (p .before .if2 .left) (p .if3 .left) (c .before .if4 .left)
 
 pub read-number-spec : {M : Type 1} → statement M
 read-number-spec =

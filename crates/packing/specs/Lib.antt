@@ -1,0 +1,4 @@
+pub mod Value
+pub mod Numbers
+pub mod Back
+pub mod BackStand

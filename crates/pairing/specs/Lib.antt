@@ -1,0 +1,5 @@
+pub mod Numbered
+pub mod Rows
+pub mod Tables
+pub mod Sounds
+pub mod Judging
