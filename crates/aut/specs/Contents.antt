@@ -9,6 +9,7 @@ use lib.Dec.{eqb, leb}
 use lib.ListN.{length}
 use Rattle.names.specs.If.{if}
 use Rattle.tokens.specs.Parse.{Got, got, off, andThen, _>>=_, _>>_}
+use Rattle.tokens.specs.OneAnswer.{off-not-got}
 use Rattle.tokens.specs.Lines.{line, head}
 use Rattle.tokens.specs.declared.Line.{Line}
 use Rattle.tokens.specs.declared.Head.{Head}
@@ -53,20 +54,17 @@ unfoldable pub addAll : Behaviour → List Line → Behaviour
 addAll b [] = b
 addAll b (l ∷ ls) = addAll (add b l) ls
 
-got-off : {A : Type 0} {a : A} {s : List ℕ} → off ≡ got a s → ⊥
-got-off e = let z : _≡_ {A = ℕ} 0 1 = cc e in omega arith
-
 -- the file's definition reads and judges a line at a time; reading all the lines first comes to the same
 module _ (p : ℕ) (b : Behaviour) (t : ℕ) (again : (c : Behaviour) (r : List ℕ) (ms : List Line) → linesRead t r ≡ got ms [] → lines t (p + 1) c r ≡ judged (p + 1) c ms) where
   judged-step : (g : Got Line) (ls : List Line)
       → andThen g (λ l r. andThen (linesRead t r) (λ ms. got (l ∷ ms))) ≡ got ls [] → next p b g (lines t (p + 1)) ≡ judged p b ls
   unfolding judged
-  judged-step off ls e = absurd (got-off e)
+  judged-step off ls e = absurd (off-not-got e)
   judged-step (got l r) ls e = go (linesRead t r) ls refl e
     where
       go : (h : Got (List Line)) (ks : List Line) → linesRead t r ≡ h → andThen h (λ ms. got (l ∷ ms)) ≡ got ks []
           → if (eqb (check b l) 0) (lines t (p + 1) (add b l) r) (refuse (check b l) p) ≡ judged p b ks
-      go off ks f i = absurd (got-off i)
+      go off ks f i = absurd (off-not-got i)
       go (got ms u) ks f i =
           let x : ks ≡ l ∷ ms = cc in
           let y : linesRead t r ≡ got ms [] = cc in
@@ -177,11 +175,11 @@ contents-of s a = go (head s) refl (rw (le-leb (length s) mostBytes (file-short 
 module _ (t : ℕ) (again : (r : List ℕ) (ms : List Line) (u : List ℕ) → linesRead t r ≡ got ms u → length ms ≡ t) where
   count-step : (g : Got Line) (ls : List Line) (u : List ℕ)
       → andThen g (λ l r. andThen (linesRead t r) (λ ms. got (l ∷ ms))) ≡ got ls u → length ls ≡ suc t
-  count-step off ls u e = absurd (got-off e)
+  count-step off ls u e = absurd (off-not-got e)
   count-step (got l r) ls u e = go (linesRead t r) refl e
     where
       go : (h : Got (List Line)) → linesRead t r ≡ h → andThen h (λ ms. got (l ∷ ms)) ≡ got ls u → length ls ≡ suc t
-      go off f i = absurd (got-off i)
+      go off f i = absurd (off-not-got i)
       go (got ms v) f i = let x : ls ≡ l ∷ ms = cc in rw x (ap suc (again r ms v f))
 
 lines-count : (t : ℕ) (s : List ℕ) (ls : List Line) (u : List ℕ) → linesRead t s ≡ got ls u → length ls ≡ t

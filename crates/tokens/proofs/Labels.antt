@@ -4,11 +4,14 @@ use mathlib.Core.List.{List, [], _∷_}
 use Prim.Native.Nat.{ℕ, _<_, _≤_}
 use native.Mathlib.Omega.{arith}
 use borrow.Author.Tests.{eq-eqb, ne-eqb}
+use lib.Dec.{eqb}
 use lib.ListN.{length, getD, drop, drop-of-length-le}
+use Rattle.names.specs.If.{if}
 use Rattle.names.specs.Names.{nameNumber}
-use Rattle.tokens.specs.declared.Label.the-variants.{Mark, Take, Send, Other}
+use Rattle.tokens.specs.declared.Label.{Label}
+use Rattle.tokens.specs.declared.Label.the-variants.{Mark, Other}
 use Rattle.tokens.specs.Parse.{Got, got, nothing, Nothing}
-use Rattle.tokens.specs.Tokens.{word, marked, label}
+use Rattle.tokens.specs.Tokens.{word, taken, sent, marked, label}
 use Rattle.names.specs.Places.{here}
 
 pub label-none : (s : List ℕ) → length s ≡ 0 → Other ≡ label s
@@ -16,26 +19,23 @@ unfolding label
 label-none [] h = refl
 label-none (c ∷ s) h = absurd (omega arith)
 
+-- a sign and what follows it
 module _ (n : ℕ) where
-  pub take-no : (s : List ℕ) → (length s ≡ 0 → ⊥) → getD s 0 0 ≡ 63 → n ≡ nameNumber (drop 1 s) → n ≡ 0 → Other ≡ label s
+  pub take-label : (s : List ℕ) → (length s ≡ 0 → ⊥) → getD s 0 0 ≡ 63 → n ≡ nameNumber (drop 1 s) → taken n ≡ label s
   unfolding label
-  take-no [] h e f z = absurd (h refl)
-  take-no (c ∷ s) h e f z = rw (eq-eqb c _ e, ← f, eq-eqb n _ z)
+  take-label [] h e f = absurd (h refl)
+  take-label (c ∷ s) h e f = rw (eq-eqb c _ e, ← f)
 
-  pub take-yes : (s : List ℕ) → (length s ≡ 0 → ⊥) → getD s 0 0 ≡ 63 → n ≡ nameNumber (drop 1 s) → (n ≡ 0 → ⊥) → Take n ≡ label s
+  pub send-label : (s : List ℕ) → (length s ≡ 0 → ⊥) → getD s 0 0 ≡ 33 → n ≡ nameNumber (drop 1 s) → sent n ≡ label s
   unfolding label
-  take-yes [] h e f z = absurd (h refl)
-  take-yes (c ∷ s) h e f z = rw (eq-eqb c _ e, ← f, ne-eqb n _ z)
+  send-label [] h e f = absurd (h refl)
+  send-label (c ∷ s) h e f = rw (ne-eqb c 63 (omega arith), eq-eqb c _ e, ← f)
 
-  pub send-no : (s : List ℕ) → (length s ≡ 0 → ⊥) → getD s 0 0 ≡ 33 → n ≡ nameNumber (drop 1 s) → n ≡ 0 → Other ≡ label s
-  unfolding label
-  send-no [] h e f z = absurd (h refl)
-  send-no (c ∷ s) h e f z = rw (ne-eqb c 63 (omega arith), eq-eqb c _ e, ← f, eq-eqb n _ z)
+  pub no-name : (l : Label) → n ≡ 0 → Other ≡ if (eqb n 0) Other l
+  no-name l z = rw (eq-eqb n 0 z)
 
-  pub send-yes : (s : List ℕ) → (length s ≡ 0 → ⊥) → getD s 0 0 ≡ 33 → n ≡ nameNumber (drop 1 s) → (n ≡ 0 → ⊥) → Send n ≡ label s
-  unfolding label
-  send-yes [] h e f z = absurd (h refl)
-  send-yes (c ∷ s) h e f z = rw (ne-eqb c 63 (omega arith), eq-eqb c _ e, ← f, ne-eqb n _ z)
+  pub a-name : (l : Label) → (n ≡ 0 → ⊥) → l ≡ if (eqb n 0) Other l
+  a-name l z = rw (ne-eqb n 0 z)
 
 -- neither sign: what the word `ckp` leaves decides
 pub label-word : (s : List ℕ) (g : Got Nothing) → (length s ≡ 0 → ⊥) → (getD s 0 0 ≡ 63 → ⊥) → (getD s 0 0 ≡ 33 → ⊥)

@@ -5,7 +5,7 @@ use Rattle.tokens.specs.Parse.{got, nothing}
 use Rattle.tokens.specs.Tokens.{marked, label}
 use mathlib.Core.Path.{_≡_, sym, ap, _∙_}
 use Rattle.tokens.specs.Seen.{stepOf}
-use Rattle.tokens.proofs.Labels.{label-none, take-no, take-yes, send-no, send-yes, label-word, marked-end, marked-more}
+use Rattle.tokens.proofs.Labels.{label-none, take-label, send-label, no-name, a-name, label-word, marked-end, marked-more}
 use borrow.Author.Needs.{needs}
 use Rattle.tokens.proofs.read_label.Statement.{statement}
 use Rattle.tokens.proofs.read_label.Tie as tie
@@ -27,19 +27,27 @@ number-of-requires : tie.Need-number-of-requires
 number-of-requires c κs = search needs
 
 returns-2 : tie.Need-returns-2
-returns-2 c = let p = c .before .before in take-no _ _ (p .before .before .if1 .left) (p .if2 .taken) (c .before .number-of .ensures) (c .if3 .taken)
+returns-2 c =
+    let p = c .before .before in
+    no-name _ _ (c .if3 .taken) ∙ take-label _ _ (p .before .before .if1 .left) (p .if2 .taken) (c .before .number-of .ensures)
 
 returns-3 : tie.Need-returns-3
-returns-3 c = let p = c .before .before in take-yes _ _ (p .before .before .if1 .left) (p .if2 .taken) (c .before .number-of .ensures) (c .if3 .left)
+returns-3 c =
+    let p = c .before .before in
+    a-name _ _ (c .if3 .left) ∙ take-label _ _ (p .before .before .if1 .left) (p .if2 .taken) (c .before .number-of .ensures)
 
 number-of-requires-2 : tie.Need-number-of-requires-2
 number-of-requires-2 c κs = search needs
 
 returns-4 : tie.Need-returns-4
-returns-4 c = let p = c .before .before in send-no _ _ (p .before .before .before .if1 .left) (p .if4 .taken) (c .before .number-of2 .ensures) (c .if5 .taken)
+returns-4 c =
+    let p = c .before .before in
+    no-name _ _ (c .if5 .taken) ∙ send-label _ _ (p .before .before .before .if1 .left) (p .if4 .taken) (c .before .number-of2 .ensures)
 
 returns-5 : tie.Need-returns-5
-returns-5 c = let p = c .before .before in send-yes _ _ (p .before .before .before .if1 .left) (p .if4 .taken) (c .before .number-of2 .ensures) (c .if5 .left)
+returns-5 c =
+    let p = c .before .before in
+    a-name _ _ (c .if5 .left) ∙ send-label _ _ (p .before .before .before .if1 .left) (p .if4 .taken) (c .before .number-of2 .ensures)
 
 slice-aggregate-literal : tie.Need-slice-aggregate-literal
 slice-aggregate-literal c = search needs
