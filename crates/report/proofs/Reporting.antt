@@ -3,20 +3,15 @@ use mathlib.Core.Path.{_≡_, refl, sym, _∙_, ap, subst}
 use mathlib.Core.List.{List, [], _∷_, _++_}
 use Prim.Native.Nat.{ℕ}
 use lib.ListN.{length}
-use Rattle.behaviour.specs.declared.Behaviour.{Behaviour}
-use Rattle.behaviour.specs.SoundLaws.{Sized}
 use Rattle.aut.specs.declared.Read.{Read}
 use Rattle.aut.specs.File.{file}
 use Rattle.stands.specs.Cases.{bytes}
-use Rattle.roundtrip.specs.Theorems.{Arrays, read-sound}
+use Rattle.roundtrip.specs.Theorems.{read-sound}
 use Rattle.report.specs.declared.Reported.{Reported}
 use Rattle.report.specs.Output.{refusedText, judgedText, Prints, client-refused, server-refused, both-judged}
 use Rattle.report.specs.Reports.{Tells, Reports}
 use Rattle.report.specs.Judges.{CanJudge, Judges}
 use Rattle.report.proofs.Accepted.{accepted}
-
-sized : (b : Behaviour) → Arrays b → Sized b
-sized b a = record { marks = a .marks; signs = a .signs; messages = a .messages }
 
 module _ (f g : List ℕ) {a : Read} (p : a ≡ file f) where
   pub reports-client : {r : Reported} {out e : List ℕ} → (a .refusal .number ≡ 0 → ⊥) → Tells (refusedText (99 ∷ 108 ∷ 105 ∷ 101 ∷ 110 ∷ 116 ∷ []) (a .refusal)) out r e → Reports f g out r e
@@ -47,7 +42,7 @@ module _ (f g : List ℕ) {a : Read} (p : a ≡ file f) where
       can-judge {run} l =
           let h = read-sound f (file f .value) (accepted f taken) in
           let k = read-sound g (file g .value) (accepted g taken-too) in
-          rw (p, q) (record { sounds = record { client = h .0; server = k .0 }; client = sized (file f .value) (h .1); server = sized (file g .value) (k .1); room = l })
+          rw (p, q) (record { sounds = record { client = h .0; server = k .0 }; client = h .1; server = k .1; room = l })
 
       pub reports-both : {r : Reported} {out e : List ℕ} → Judges (a .value) (b .value) out r e → Reports f g out r e
       reports-both {r} {out} {e} j = go (rw (p, q) at j)

@@ -22,7 +22,6 @@ ghost use Rattle.report.specs.Followed.{nextState, nextHome, seenLine, f
 ghost use Rattle.report.specs.Listed.{Room, SideListed, Listed};
 ghost use Rattle.report.specs.Reports.{Tells, Reports};
 ghost use Rattle.report.specs.Judges.{CanJudge, Judges};
-ghost use Rattle.verdict.specs.Answer.{Says};
 
 // A rollback's byte in a run.
 const ROLLBACK: u8 = 255;
@@ -320,17 +319,11 @@ fn say_stuck(c: Behaviour, s: Behaviour, cause: u8, run: &[u8], out: &mut [u8]) 
     )
 }
 
-fn judge(client: Behaviour, server: Behaviour, run: &mut [u8]) -> Verdict
-    ensures { λ r. ⌜ Says client server (now (run .entry)) r (now (run .exit)) ⌝ }
-{
-    Verdict::Compliant(0)
-}
-
 fn say_verdict(c: Behaviour, s: Behaviour, run: &mut [u8], out: &mut [u8]) -> Reported
     requires { ⌜ CanJudge c s (now run) ⌝ }
     ensures { λ r. ⌜ Judges c s (now (out .entry)) r (now (out .exit)) ⌝ }
 {
-    let v = judge(c, s, run);
+    let v = verdict::judge(c, s, run);
     match v {
         Verdict::Compliant(n) => say_compliant(n, out),
         Verdict::Stuck(cause, n) => {
