@@ -9,6 +9,7 @@ use lib.Seq.{take-suc, take-suc-set, take-all, getD-drop, drop-drop}
 use Rattle.names.specs.Places.{here}
 use Rattle.behaviour.specs.Limits.{mostLines}
 use Rattle.behaviour.specs.declared.Message.{Message}
+use Rattle.behaviour.specs.declared.Behaviour.{Behaviour}
 use Rattle.packing.specs.Value.{messageBytes, numberOf, unpackedMessage, unpackedMessages}
 
 -- what a name's beginning is below where k bytes more follow
@@ -61,3 +62,14 @@ messages-done a s i p t h l e =
     let f : mostLines - i ≡ 0 = omega arith in
     let k : length a ≤ i = omega arith in
     sym (e ∙ rw (f, take-all i a k) (append-nil a))
+
+-- what a value has besides its messages
+pub record Kept (n k : ℕ) (ms gs : List ℕ) (b : Behaviour) : Type 0 where
+  pub states : b .states ≡ n
+  pub count : b .count ≡ k
+  pub marks : b .marks ≡ ms
+  pub signs : b .signs ≡ gs
+
+pub kept-all : (n k : ℕ) (ms gs : List ℕ) (b : Behaviour) (l : List Message) → Kept n k ms gs b → b .messages ≡ l
+    → b ≡ record { states = n; count = k; marks = ms; signs = gs; messages = l }
+kept-all n k ms gs b l h e = rw (← h .states, ← h .count, ← h .marks, ← h .signs, ← e)

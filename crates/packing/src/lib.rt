@@ -120,25 +120,6 @@ fn message_at(s: &[u8], at: usize) -> Message
     Message { name, from, to }
 }
 
-fn messages_at(s: &[u8], at: usize) -> Messages
-    requires { ⌜ at + mostLines * messageBytes ≤ length (now s) ⌝ }
-    ensures { λ r. ⌜ r ≡ unpackedMessages mostLines (drop at (now (s .entry))) ⌝ }
-{
-    let mut a = [Message {
-        name: 0,
-        from: 0,
-        to: 0,
-    }; LINES];
-    let mut i = 0;
-    let mut p = at;
-    while i < LINES {
-        a[i] = message_at(s, p);
-        p += MESSAGE_BYTES;
-        i += 1;
-    }
-    a
-}
-
 fn row_at(s: &[u8], at: usize) -> PerState
     requires { ⌜ at + mostStates ≤ length (now s) ⌝ }
     ensures { λ r. ⌜ r ≡ take mostStates (drop at (now (s .entry))) ⌝ }
@@ -152,6 +133,32 @@ fn row_at(s: &[u8], at: usize) -> PerState
     a
 }
 
+// The value with its messages read in place: a second array of them would take stack.
+fn with_messages(s: &[u8], states: u8, count: u8, marks: PerState, signs: PerState) -> Behaviour
+    requires { ⌜ valueBytes ≤ length (now s) ⌝ }
+    ensures { λ r. ⌜ r ≡ record { states = states; count = count; marks = marks; signs = signs; messages = unpackedMessages mostLines (drop (2 + 2 * mostStates) (now (s .entry))) } ⌝ }
+{
+    let mut b = Behaviour {
+        states,
+        count,
+        marks,
+        signs,
+        messages: [Message {
+            name: 0,
+            from: 0,
+            to: 0,
+        }; LINES],
+    };
+    let mut i = 0;
+    let mut p = 2 + 2 * STATES;
+    while i < LINES {
+        b.messages[i] = message_at(s, p);
+        p += MESSAGE_BYTES;
+        i += 1;
+    }
+    b
+}
+
 // The value that the bytes code; one of zero states if they are not of a value's length.
 pub fn unpack(s: &[u8]) -> Behaviour
     ensures { λ r. ⌜ r ≡ unpacked (now (s .entry)) ⌝ }
@@ -163,14 +170,7 @@ pub fn unpack(s: &[u8]) -> Behaviour
     let count = s[1];
     let marks = row_at(s, 2);
     let signs = row_at(s, 2 + STATES);
-    let messages = messages_at(s, 2 + 2 * STATES);
-    Behaviour {
-        states,
-        count,
-        marks,
-        signs,
-        messages,
-    }
+    with_messages(s, states, count, marks, signs)
 }
 
 fn wide(x: u8) -> u32

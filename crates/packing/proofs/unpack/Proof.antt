@@ -1,8 +1,5 @@
 -- `packing::unpack` meets its contract.
-use mathlib.Core.Path.{_≡_, refl, sym, ap, _∙_}
-use Prim.Native.Nat.{ℕ, _+_, _*_, _-_, _<_, _≤_}
-use native.Mathlib.Omega.{arith}
-use lib.ListN.{length, getD, take, drop, set, length-set}
+use lib.ListN.{length}
 use borrow.Author.Tests.{eq-eqb, ne-eqb}
 use Rattle.packing.specs.Value.{valueBytes, unpacked}
 use borrow.Author.Needs.{needs}
@@ -31,20 +28,14 @@ add-row-at c = search needs
 row-at-requires-2 : tie.Need-row-at-requires-2
 row-at-requires-2 c κs = search needs
 
-mul-messages-at : tie.Need-mul-messages-at
-mul-messages-at c = search needs
-
-add-messages-at : tie.Need-add-messages-at
-add-messages-at c = search needs
-
-messages-at-requires : tie.Need-messages-at-requires
-messages-at-requires c κs = search needs
+with-messages-requires : tie.Need-with-messages-requires
+with-messages-requires c κs = search needs
 
 returns-2 : tie.Need-returns-2
 unfolding unpacked
 returns-2 c =
     let s = c .before .before .before .before .before .before .before .args .s .now in
-    rw (eq-eqb (length s) valueBytes (c .before .before .before .before .before .if1 .left), c .before .before .row-at .ensures, c .before .row-at2 .ensures, c .messages-at .ensures)
+    rw (eq-eqb (length s) valueBytes (c .before .before .before .before .before .if1 .left), ← c .before .before .row-at .ensures, ← c .before .row-at2 .ensures) (c .with-messages .ensures)
 
 pub unpack-spec : {M : Type 1} → statement M
 unpack-spec =
@@ -57,7 +48,5 @@ unpack-spec =
     row-at-requires
     add-row-at
     row-at-requires-2
-    mul-messages-at
-    add-messages-at
-    messages-at-requires
+    with-messages-requires
     returns-2)
