@@ -1,3 +1,4 @@
+-- `lines::open_kept` meets its contract: what `held` makes of what `session::open` answers.
 use borrow.Author.Needs.{needs}
 use Rattle.lines.proofs.open_kept.Statement.{statement}
 use Rattle.lines.proofs.open_kept.Tie as tie

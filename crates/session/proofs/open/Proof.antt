@@ -1,3 +1,4 @@
+-- `session::open` meets its contract: each case of the verdict's answer, with what it says of the pair (Opened).
 use borrow.Author.Needs.{needs}
 use Rattle.session.proofs.Opened.{opens-by}
 use Rattle.session.proofs.open.Statement.{statement}

@@ -1,3 +1,4 @@
+-- `session::refused_open` meets its contract, case by case.
 use borrow.Author.Needs.{needs}
 use borrow.Author.Tests.{eq-eqb, ne-eqb}
 use Rattle.session.proofs.refused_open.Statement.{statement}
