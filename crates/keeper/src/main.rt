@@ -204,6 +204,11 @@ fn main() {
     let n7 = say(n6, b"garden");
     let n8 = back(n7);
     let held = n8.record;
-    open(2, b"des (0,1,2)\n(0,\"?a\",1)\n", b"des (0,2,2)\n(0,\"!a\",1)\n(0,\"!b\",1)\n", held);
+    open(
+        2,
+        b"des (0,1,2)\n(0,\"?a\",1)\n",
+        b"des (0,2,2)\n(0,\"!a\",1)\n(0,\"!b\",1)\n",
+        held,
+    );
     open(1, b"", b"des (0,0,1)\n", g5.record);
 }
