@@ -12,7 +12,7 @@ use stands::ServerState;
 use stands::Stand;
 ghost use mathlib.Core.Path.{_≡_};
 ghost use Rattle.session.specs.Answers.{messaged, rolledBack};
-ghost use Rattle.lines.specs.Lent.{keptOf};
+ghost use Rattle.lines.specs.Lent.{keptOf, OpensInto};
 
 // An open line: its number, its pair and its record.
 struct Line {
@@ -26,6 +26,15 @@ fn kept(session: Session, outcome: Outcome) -> Kept
     ensures { λ r. ⌜ r ≡ record { session = session; outcome = outcome } ⌝ }
 {
     Kept { session, outcome }
+}
+
+// The record is lent for an opening, and comes back.
+fn lend_open(line: Session, client: Behaviour, server: Behaviour) -> Kept
+    ensures { λ r. ⌜ OpensInto client server line r ⌝ }
+{
+    let mut record = line;
+    let outcome = lines::open(&mut record, client, server);
+    kept(record, outcome)
 }
 
 // The record is lent for a message, and comes back.
@@ -103,13 +112,13 @@ fn tell(number: u8, call: &[u8], k: Kept) {
     io::write_all(STDOUT_FILENO, b"\n");
 }
 
-// What an opening hands back: both at state 0, both return points none.
-fn start() -> Session {
+// A record of no line: what stands in it before the opening is not looked at.
+fn unused() -> Session {
     Session {
         stand: Stand {
-            client: ClientState(0),
+            client: ClientState(9),
             clientpoint: ClientPoint::Nowhere,
-            server: ServerState(0),
+            server: ServerState(9),
             serverpoint: ServerPoint::Nowhere,
         },
     }
@@ -126,10 +135,12 @@ fn with(line: Line, record: Session) -> Line {
     }
 }
 
-fn begin(number: u8, client: &[u8], server: &[u8]) -> Line {
+fn open(number: u8, client: &[u8], server: &[u8], record: Session) -> Line {
     let c = aut::read_file(client).value;
     let s = aut::read_file(server).value;
-    let z = start();
+    let k = lend_open(record, c, s);
+    tell(number, b"open", k);
+    let z = k.session;
     Line {
         number,
         client: c,
@@ -157,26 +168,28 @@ fn back(line: Line) -> Line {
 }
 
 // 01's case g, with its session a, rollback, rollback.
-fn line_g() -> Line {
-    begin(
+fn open_g() -> Line {
+    open(
         1,
         b"des (0,2,2)\n(0,\"ckp\",0)\n(0,\"?a\",1)\n",
         b"des (0,2,2)\n(0,\"ckp\",0)\n(0,\"!a\",1)\n",
+        unused(),
     )
 }
 
 // 01's case n.
-fn line_n() -> Line {
-    begin(
+fn open_n() -> Line {
+    open(
         2,
         b"des (0,5,4)\n(0,\"ckp\",0)\n(0,\"?sea\",1)\n(0,\"?house\",2)\n(1,\"?house\",2)\n(2,\"?garden\",3)\n",
         b"des (0,6,4)\n(0,\"ckp\",0)\n(0,\"!sea\",1)\n(0,\"!house\",2)\n(1,\"ckp\",1)\n(1,\"!house\",2)\n(2,\"!garden\",3)\n",
+        unused(),
     )
 }
 
 fn main() {
-    let g0 = line_g();
-    let n0 = line_n();
+    let g0 = open_g();
+    let n0 = open_n();
     let g1 = say(g0, b"a");
     let n1 = say(n0, b"sea");
     let n2 = say(n1, b"house");
@@ -189,6 +202,13 @@ fn main() {
     let g4 = say(g3, b"A");
     let g5 = say(g4, b"a");
     let n7 = say(n6, b"garden");
-    back(n7);
-    back(g5);
+    let n8 = back(n7);
+    let held = n8.record;
+    open(
+        2,
+        b"des (0,1,2)\n(0,\"?a\",1)\n",
+        b"des (0,2,2)\n(0,\"!a\",1)\n(0,\"!b\",1)\n",
+        held,
+    );
+    open(1, b"", b"des (0,0,1)\n", g5.record);
 }
