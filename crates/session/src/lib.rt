@@ -86,7 +86,7 @@ pub fn open(client: Behaviour, server: Behaviour) -> Answer
     ensures { λ r. ⌜ Opens client server r ⌝ }
 {
     let mut run: [u8; 1] = [0; 1];
-    match verdict::verdict(client, server, &mut run) {
+    match verdict::judge(client, server, &mut run) {
         Verdict::Compliant(_) => begin(),
         Verdict::Stuck(_, _) => refuse(14),
         Verdict::Refused(f) => refused_open(f),

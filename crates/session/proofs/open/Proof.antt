@@ -4,11 +4,11 @@ use Rattle.session.proofs.Opened.{opens-by}
 use Rattle.session.proofs.open.Statement.{statement}
 use Rattle.session.proofs.open.Tie as tie
 
-slice-aggregate-verdict : tie.Need-slice-aggregate-verdict
-slice-aggregate-verdict c = search needs
+slice-aggregate-judge : tie.Need-slice-aggregate-judge
+slice-aggregate-judge c = search needs
 
-verdict-requires : tie.Need-verdict-requires
-verdict-requires c κs = search needs
+judge-requires : tie.Need-judge-requires
+judge-requires c κs = search needs
 
 enum-told : tie.Need-enum-told
 enum-told c = search needs
@@ -29,20 +29,20 @@ refused-open-requires : tie.Need-refused-open-requires
 refused-open-requires c κs = search needs
 
 returns : tie.Need-returns
-returns c = opens-by _ _ _ _ _ _ _ (c .before .before .before .before .verdict .ensures) (c .before .enum-told .given .1) (c .begin .ensures)
+returns c = opens-by _ _ _ _ _ _ _ (c .before .before .before .before .judge .ensures) (c .before .enum-told .given .1) (c .begin .ensures)
 
 returns-2 : tie.Need-returns-2
-returns-2 c = opens-by _ _ _ _ _ _ _ (c .before .before .before .before .verdict .ensures) (c .before .enum-told2 .given .1) (c .refuse .ensures)
+returns-2 c = opens-by _ _ _ _ _ _ _ (c .before .before .before .before .judge .ensures) (c .before .enum-told2 .given .1) (c .refuse .ensures)
 
 returns-3 : tie.Need-returns-3
-returns-3 c = opens-by _ _ _ _ _ _ _ (c .before .before .before .before .before .verdict .ensures) (c .before .before .f .given .1) (c .refused-open .ensures)
+returns-3 c = opens-by _ _ _ _ _ _ _ (c .before .before .before .before .before .judge .ensures) (c .before .before .f .given .1) (c .refused-open .ensures)
 
 pub open-spec : {M : Type 1} → statement M
 open-spec =
     tie.close
     (tie.spec
-    slice-aggregate-verdict
-    verdict-requires
+    slice-aggregate-judge
+    judge-requires
     enum-told
     begin-requires
     enum-told-2
