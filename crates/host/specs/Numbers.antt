@@ -1,0 +1,26 @@
+-- An answer as one number: the refusal number × 2^32 + the place; or, with number 0, what was granted.
+use Prim.Native.Nat.{ℕ, _+_, _*_}
+use Rattle.behaviour.specs.declared.Refusal.{Refusal}
+use Rattle.writer.specs.declared.Written.{Written}
+use Rattle.writer.specs.declared.Written.the-variants as written
+use Rattle.session.specs.declared.Session.{Session}
+use Rattle.session.specs.declared.Answer.{Answer}
+use Rattle.session.specs.declared.Answer.the-variants as answer
+use Rattle.packing.specs.Numbers.{packedStand, unpackedStand}
+
+abbrev pub refusedNumber : Refusal → ℕ
+refusedNumber f = f .number * 4294967296 + f .place
+
+-- granted: the text's length
+abbrev pub writtenNumber : Written → ℕ
+writtenNumber (written.Bytes n) = n
+writtenNumber (written.Refused f) = refusedNumber f
+
+-- a session is the number of its stand
+abbrev pub sessionOf : ℕ → Session
+sessionOf n = record { stand = unpackedStand n }
+
+-- granted: the next session
+abbrev pub sessionNumber : Answer → ℕ
+sessionNumber (answer.Next z) = packedStand (z .stand)
+sessionNumber (answer.Refused f) = refusedNumber f
