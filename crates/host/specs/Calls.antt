@@ -9,10 +9,14 @@ use Rattle.aut.specs.declared.Read.{Read}
 use Rattle.aut.specs.File.{file}
 use Rattle.writer.specs.Written.{tooLong, written}
 use Rattle.writer.specs.Written as writer
+use Rattle.verdict.specs.declared.Verdict.{Verdict}
+use Rattle.verdict.specs.Answer.{Says}
+use Rattle.session.specs.declared.Answer.{Answer}
 use Rattle.session.specs.Answers.{messaged, rolledBack}
+use Rattle.session.specs.Opening as session
 use Rattle.packing.specs.Value.{valueBytes, unpacked}
 use Rattle.packing.specs.Value as packing
-use Rattle.host.specs.Numbers.{refusedNumber, writtenNumber, sessionOf, sessionNumber}
+use Rattle.host.specs.Numbers.{refusedNumber, writtenNumber, verdictNumber, sessionOf, sessionNumber}
 
 -- 1 to 11 of the file, then 12; or the length of a value
 abbrev pub readNumber : Read → List ℕ → ℕ
@@ -29,6 +33,16 @@ pub record Reads (text out : List ℕ) (r : ℕ) (left : List ℕ) : Type 0 wher
 pub record Writes (value out : List ℕ) (r : ℕ) (left : List ℕ) : Type 0 where
   pub says : r ≡ writtenNumber (written (unpacked value) out)
   pub leaves : left ≡ writer.left (unpacked value) out
+
+pub record Judges (c s run : List ℕ) (r : ℕ) (left : List ℕ) : Type 0 where
+  pub verdict : Verdict
+  pub says : Says (unpacked c) (unpacked s) run verdict left
+  pub number : r ≡ verdictNumber verdict
+
+pub record Opens (c s : List ℕ) (r : ℕ) : Type 0 where
+  pub answer : Answer
+  pub opens : session.Opens (unpacked c) (unpacked s) answer
+  pub number : r ≡ sessionNumber answer
 
 abbrev pub Messages : List ℕ → List ℕ → ℕ → List ℕ → ℕ → Type 0
 Messages c s n name r = r ≡ sessionNumber (messaged (unpacked c) (unpacked s) (sessionOf n) name)

@@ -1,6 +1,8 @@
 -- An answer as one number: the refusal number × 2^32 + the place; or, with number 0, what was granted.
 use Prim.Native.Nat.{ℕ, _+_, _*_}
 use Rattle.behaviour.specs.declared.Refusal.{Refusal}
+use Rattle.verdict.specs.declared.Verdict.{Verdict}
+use Rattle.verdict.specs.declared.Verdict.the-variants as verdict
 use Rattle.writer.specs.declared.Written.{Written}
 use Rattle.writer.specs.declared.Written.the-variants as written
 use Rattle.session.specs.declared.Session.{Session}
@@ -15,6 +17,12 @@ refusedNumber f = f .number * 4294967296 + f .place
 abbrev pub writtenNumber : Written → ℕ
 writtenNumber (written.Bytes n) = n
 writtenNumber (written.Refused f) = refusedNumber f
+
+-- granted: the cause × 2^16 + the run's length, or with cause 0 the number of stands
+abbrev pub verdictNumber : Verdict → ℕ
+verdictNumber (verdict.Compliant k) = k
+verdictNumber (verdict.Stuck e n) = e * 65536 + n
+verdictNumber (verdict.Refused f) = refusedNumber f
 
 -- a session is the number of its stand
 abbrev pub sessionOf : ℕ → Session

@@ -2,9 +2,10 @@
 use behaviour::Refusal;
 use session::Answer;
 use session::Session;
+use verdict::Verdict;
 use writer::Written;
 ghost use mathlib.Core.Path.{_≡_};
-ghost use Rattle.host.specs.Numbers.{refusedNumber, writtenNumber, sessionNumber, sessionOf};
+ghost use Rattle.host.specs.Numbers.{refusedNumber, writtenNumber, verdictNumber, sessionNumber, sessionOf};
 ghost use Rattle.host.specs.Calls.{Reads, Writes, Messages, RollsBack};
 
 fn wide_byte(x: u8) -> u64
@@ -40,6 +41,16 @@ fn written_number(w: Written) -> u64
     match w {
         Written::Bytes(n) => wide_place(n),
         Written::Refused(f) => refused(f),
+    }
+}
+
+fn verdict_number(v: Verdict) -> u64
+    ensures { λ r. ⌜ r ≡ verdictNumber v ⌝ }
+{
+    match v {
+        Verdict::Compliant(k) => wide_place(k),
+        Verdict::Stuck(e, n) => wide_byte(e) * 65536 + wide_place(n),
+        Verdict::Refused(f) => refused(f),
     }
 }
 

@@ -14,7 +14,7 @@ refused-requires : tie.Need-refused-requires
 refused-requires c κs = search needs
 
 returns : tie.Need-returns
-returns c = 
+returns c =
     let f = c .before .before .before .before .read-file in
     let n = ne-eqb (f .result .refusal .number) 0 (c .before .if1 .taken) in
     record { says = rw (← f .ensures, n) (c .refused .ensures); leaves = rw (← f .ensures, n) }
@@ -26,7 +26,7 @@ same-length : tie.Need-same-length
 same-length c = search needs
 
 returns-2 : tie.Need-returns-2
-returns-2 c = 
+returns-2 c =
     let f = c .before .before .before .before .before .before .before .before .before .read-file in
     let n = eq-eqb (f .result .refusal .number) 0 (c .before .before .before .before .before .before .if1 .left) in
     let p = c .before .before .before .pack .ensures in
@@ -42,7 +42,7 @@ same-length-2 : tie.Need-same-length-2
 same-length-2 c = search needs
 
 returns-3 : tie.Need-returns-3
-returns-3 c = 
+returns-3 c =
     let f = c .before .before .before .before .before .before .before .before .before .before .before .read-file in
     let n = eq-eqb (f .result .refusal .number) 0 (c .before .before .before .before .before .before .before .before .if1 .left) in
     let p = c .before .before .before .before .before .pack .ensures in

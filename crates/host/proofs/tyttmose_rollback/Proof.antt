@@ -19,7 +19,7 @@ session-number-requires : tie.Need-session-number-requires
 session-number-requires c κs = search needs
 
 returns : tie.Need-returns
-returns c = 
+returns c =
     rw (← c .before .before .before .before .session-of .ensures, ← c .before .before .before .unpack .ensures, ← c .before .before .unpack2 .ensures, ← c .before .rollback .ensures) (c .session-number .ensures)
 
 pub tyttmose-rollback-spec : {M : Type 1} → statement M

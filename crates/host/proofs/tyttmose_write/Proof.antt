@@ -16,7 +16,7 @@ same-length : tie.Need-same-length
 same-length c = search needs
 
 returns : tie.Need-returns
-returns c = 
+returns c =
     let e = c .before .before .before .before .before .unpack .ensures in
     let w = c .before .before .before .write .ensures in
     record { says = rw (← e, ← w .0) (c .written-number .ensures); leaves = rw (← e) (w .1) }
