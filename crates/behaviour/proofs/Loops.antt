@@ -7,11 +7,12 @@ use native.Mathlib.Omega.{arith}
 use native.Mathlib.Numerals.{add-one}
 use lib.Dec.{eqb}
 use lib.Seq.{drop-cons}
-use lib.ListN.{length, getD, drop, take, drop-of-length-le}
+use lib.ListN.{length, getD, set, drop, take, drop-of-length-le}
 use Rattle.names.specs.If.{if}
 use Rattle.behaviour.specs.declared.Message.{Message}
 use Rattle.behaviour.specs.Pick.{pick, nil, next-used}
-use Rattle.behaviour.specs.Sound.{before, between, allBetween, sorted, blank, allBlank, speaks, signed, markable, settled, total}
+use Rattle.behaviour.specs.Spoken.{spoken, settledBy}
+use Rattle.behaviour.specs.Sound.{before, between, allBetween, sorted, blank, allBlank, signed, markable, total}
 
 module _ {A : Type 0} (d : A) (l : List A) (i : ℕ) (h : i < length l) where
   pub here : drop i l ≡ getD l i d ∷ drop (i + 1) l
@@ -26,16 +27,6 @@ between-pick s (m ∷ l) = go (between s m) (between-pick s l)
         → (b && allBetween s l) ≡ if (not b) false (pick (λ m. not (between s m)) (λ _. false) true l)
     go true r = r
     go false r = refl
-
-pub speaks-pick : (k : ℕ) (l : List Message) → speaks k l ≡ pick (λ m. eqb (m .from) k) (λ _. true) false l
-unfolding speaks pick
-speaks-pick k [] = refl
-speaks-pick k (m ∷ l) = go (eqb (m .from) k) (speaks-pick k l)
-  where
-    go : (b : Bool) → speaks k l ≡ pick (λ m. eqb (m .from) k) (λ _. true) false l
-        → (b || speaks k l) ≡ if b true (pick (λ m. eqb (m .from) k) (λ _. true) false l)
-    go true r = refl
-    go false r = r
 
 few-sorted : (k : ℕ) (l : List Message) → k ≤ 1 → true ≡ sorted (take k l)
 unfolding sorted
@@ -74,34 +65,30 @@ module _ (a : List Message) (i : ℕ) where
     unfolding allBlank
     blank-more e = rw (here nil a i h, e)
 
-clash : true ≡ false → ⊥
-clash q = let z : _≡_ {A = ℕ} 0 1 = cc q in omega arith
+module _ (n : ℕ) (a : List Message) (t : List ℕ) (i : ℕ) where
+  pub spoken-end : n ≤ i → spoken t (take (n - i) (drop i a)) ≡ t
+  unfolding spoken
+  spoken-end h = let e : n - i ≡ 0 = omega arith in rw e
 
-both-no : (a b c : Bool) → (a && b) ≡ false → false ≡ (a && (b && c))
-both-no true true c e = absurd (clash e)
-both-no true false c e = refl
-both-no false b c e = refl
+  pub spoken-more : i < n → n ≤ length a → spoken t (take (n - i) (drop i a)) ≡ spoken (set t (getD a i nil .from) 1) (take (n - (i + 1)) (drop (i + 1) a))
+  unfolding spoken
+  spoken-more h m = rw (next-used n a i h m)
 
-both-yes : (a b c : Bool) → (a && b) ≡ true → (a && (b && c)) ≡ c
-both-yes true true c e = refl
-both-yes true false c e = absurd (clash (sym e))
-both-yes false b c e = absurd (clash (sym e))
-
-module _ (l : List Message) (ms gs : List ℕ) (k i : ℕ) where
-  pub settled-end : length ms ≤ i → true ≡ settled k (drop i ms) (drop i gs) l
-  unfolding settled
+module _ (ms gs ts : List ℕ) (i : ℕ) where
+  pub settled-end : length ms ≤ i → true ≡ settledBy (drop i ms) (drop i gs) (drop i ts)
+  unfolding settledBy
   settled-end h = rw (drop-of-length-le ms h)
 
-  module _ (h : i < length ms) (j : i < length gs) where
-    pub settled-no : (signed (speaks k l) (getD gs i 0) && markable (getD ms i 0) (getD gs i 0)) ≡ false
-        → false ≡ settled k (drop i ms) (drop i gs) l
-    unfolding settled
-    settled-no e = rw (here 0 ms i h, here 0 gs i j) (both-no (signed (speaks k l) (getD gs i 0)) (markable (getD ms i 0) (getD gs i 0)) _ e)
+  module _ (h : i < length ms) (j : i < length gs) (k : i < length ts) where
+    pub settled-no : (signed (eqb (getD ts i 0) 1) (getD gs i 0) && markable (getD ms i 0) (getD gs i 0)) ≡ false
+        → false ≡ settledBy (drop i ms) (drop i gs) (drop i ts)
+    unfolding settledBy
+    settled-no e = rw (here 0 ms i h, here 0 gs i j, here 0 ts i k, e)
 
-    pub settled-more : (signed (speaks k l) (getD gs i 0) && markable (getD ms i 0) (getD gs i 0)) ≡ true
-        → settled k (drop i ms) (drop i gs) l ≡ settled (k + 1) (drop (i + 1) ms) (drop (i + 1) gs) l
-    unfolding settled
-    settled-more e = rw (here 0 ms i h, here 0 gs i j) (both-yes (signed (speaks k l) (getD gs i 0)) (markable (getD ms i 0) (getD gs i 0)) _ e)
+    pub settled-more : (signed (eqb (getD ts i 0) 1) (getD gs i 0) && markable (getD ms i 0) (getD gs i 0)) ≡ true
+        → settledBy (drop i ms) (drop i gs) (drop i ts) ≡ settledBy (drop (i + 1) ms) (drop (i + 1) gs) (drop (i + 1) ts)
+    unfolding settledBy
+    settled-more e = rw (here 0 ms i h, here 0 gs i j, here 0 ts i k, e)
 
 module _ (a : List ℕ) (i : ℕ) where
   pub total-end : length a ≤ i → total (drop i a) ≡ 0

@@ -2,4 +2,5 @@ pub mod Limits
 pub mod Refusals
 pub mod Pick
 pub mod Sound
+pub mod Spoken
 pub mod SoundLaws

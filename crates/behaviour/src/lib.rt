@@ -4,11 +4,12 @@ ghost use mathlib.Core.List.{List};
 ghost use mathlib.Core.Bool.{_&&_};
 ghost use Prim.Native.Nat.{_≤_, _<_};
 ghost use lib.Dec.{eqb};
-ghost use lib.ListN.{length, getD, take, drop};
+ghost use lib.ListN.{length, getD, take, drop, replicate};
 ghost use Rattle.names.specs.If.{if};
 ghost use Rattle.behaviour.specs.declared.Message.{Message};
 ghost use Rattle.behaviour.specs.Refusals.{refusal};
-ghost use Rattle.behaviour.specs.Sound.{before, between, allBetween, sorted, blank, allBlank, speaks, signed, markable, settled, total, sound};
+ghost use Rattle.behaviour.specs.Spoken.{spoken, settledBy};
+ghost use Rattle.behaviour.specs.Sound.{before, between, allBetween, sorted, blank, allBlank, signed, markable, total, sound};
 
 // S is at most this.
 pub const STATES: usize = 10;
@@ -107,13 +108,15 @@ fn is_between(m: Message, states: u8) -> bool
     names::is_name(n)
 }
 
-fn all_between(a: Messages, n: usize, states: u8) -> bool
+// Loops read the value's own array: a copy of it would take stack.
+fn all_between(b: Behaviour, n: usize) -> bool
     requires { ⌜ n ≤ 96 ⌝ }
-    ensures { λ r. ⌜ r ≡ allBetween states (take n a) ⌝ }
+    ensures { λ r. ⌜ r ≡ allBetween (b .states) (take n (b .messages)) ⌝ }
 {
+    let states = b.states;
     let mut i = 0;
     while i < n {
-        let m = a[i];
+        let m = b.messages[i];
         if !is_between(m, states) {
             return false;
         }
@@ -122,15 +125,15 @@ fn all_between(a: Messages, n: usize, states: u8) -> bool
     true
 }
 
-fn is_sorted(a: Messages, n: usize) -> bool
+fn is_sorted(b: Behaviour, n: usize) -> bool
     requires { ⌜ n ≤ 96 ⌝ }
-    ensures { λ r. ⌜ r ≡ sorted (take n a) ⌝ }
+    ensures { λ r. ⌜ r ≡ sorted (take n (b .messages)) ⌝ }
 {
     let mut i = 0;
     let mut j = 1;
     while j < n {
-        let x = a[i];
-        let m = a[j];
+        let x = b.messages[i];
+        let m = b.messages[j];
         if !comes_before(x, m) {
             return false;
         }
@@ -152,12 +155,12 @@ fn is_blank(m: Message) -> bool
     m.to == 0
 }
 
-fn all_blank(a: Messages, n: usize) -> bool
-    ensures { λ r. ⌜ r ≡ allBlank (drop n a) ⌝ }
+fn all_blank(b: Behaviour, n: usize) -> bool
+    ensures { λ r. ⌜ r ≡ allBlank (drop n (b .messages)) ⌝ }
 {
     let mut i = n;
     while i < LINES {
-        let m = a[i];
+        let m = b.messages[i];
         if !is_blank(m) {
             return false;
         }
@@ -166,19 +169,24 @@ fn all_blank(a: Messages, n: usize) -> bool
     true
 }
 
-fn speaks_at(a: Messages, n: usize, x: u8) -> bool
+// 1 at each state that some message is from.
+fn speaking(b: Behaviour, n: usize) -> PerState
     requires { ⌜ n ≤ 96 ⌝ }
-    ensures { λ r. ⌜ r ≡ speaks x (take n a) ⌝ }
+    ensures { λ r. ⌜ r ≡ spoken (replicate 10 0) (take n (b .messages)) ⌝ }
 {
+    let mut table = [0; STATES];
     let mut i = 0;
     while i < n {
-        let m = a[i];
-        if m.from == x {
-            return true;
+        let m = b.messages[i];
+        let x = wide(m.from);
+        if x < STATES {
+            table[x] = 1;
+            i += 1;
+        } else {
+            i += 1;
         }
-        i += 1;
     }
-    false
+    table
 }
 
 fn is_signed(speaking: bool, g: u8) -> bool
@@ -205,31 +213,28 @@ fn is_markable(m: u8, g: u8) -> bool
     g != 0
 }
 
-// The state x, by its mark, its sign and the messages.
-fn is_state(m: u8, g: u8, a: Messages, n: usize, x: u8) -> bool
-    requires { ⌜ n ≤ 96 ⌝ }
-    ensures { λ r. ⌜ r ≡ (signed (speaks x (take n a)) g && markable m g) ⌝ }
+// A state, by its mark, its sign and whether it speaks.
+fn is_state(m: u8, g: u8, t: u8) -> bool
+    ensures { λ r. ⌜ r ≡ (signed (eqb t 1) g && markable m g) ⌝ }
 {
-    let speaking = speaks_at(a, n, x);
+    let speaking = t == 1;
     if !is_signed(speaking, g) {
         return false;
     }
     is_markable(m, g)
 }
 
-fn is_settled(marks: PerState, signs: PerState, a: Messages, n: usize) -> bool
-    requires { ⌜ n ≤ 96 ⌝ }
-    ensures { λ r. ⌜ r ≡ settled 0 marks signs (take n a) ⌝ }
+fn is_settled(marks: PerState, signs: PerState, table: PerState) -> bool
+    ensures { λ r. ⌜ r ≡ settledBy marks signs table ⌝ }
 {
-    let mut x: u8 = 0;
     let mut i = 0;
     while i < STATES {
         let m = marks[i];
         let g = signs[i];
-        if !is_state(m, g, a, n, x) {
+        let t = table[i];
+        if !is_state(m, g, t) {
             return false;
         }
-        x += 1;
         i += 1;
     }
     true
@@ -275,16 +280,16 @@ pub fn is_sound(b: Behaviour) -> bool
     if LINES < n + marked_count(marks) {
         return false;
     }
-    let a = b.messages;
-    if !all_between(a, n, states) {
+    if !all_between(b, n) {
         return false;
     }
-    if !is_sorted(a, n) {
+    if !is_sorted(b, n) {
         return false;
     }
-    if !all_blank(a, n) {
+    if !all_blank(b, n) {
         return false;
     }
+    let table = speaking(b, n);
     let signs = b.signs;
-    is_settled(marks, signs, a, n)
+    is_settled(marks, signs, table)
 }

@@ -1,3 +1,8 @@
 pub mod Shortest
 pub mod Ranged
 pub mod Few
+pub mod Following
+pub mod Going
+pub mod Sizes
+pub mod Telling
+pub mod Listing

@@ -3,3 +3,5 @@ pub mod Output
 pub mod Reports
 pub mod OneOutput
 pub mod Examples
+pub mod Followed
+pub mod Listed

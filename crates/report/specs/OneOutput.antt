@@ -23,4 +23,4 @@ one-output f g t u (both-judged a b i q e) (both-judged k l j h d) =
 pub one-report : (f g out : List ℕ) (r q : Reported) (e d : List ℕ) → Reports f g out r e → Reports f g out q d → (r ≡ q) × (e ≡ d)
 one-report f g out r q e d a b =
     let h = one-output f g (a .text) (b .text) (a .prints) (b .prints) in
-    (a .says ∙ ap (λ (t : List ℕ). answer t out) h ∙ sym (b .says), a .leaves ∙ ap (λ (t : List ℕ). left t out) h ∙ sym (b .leaves))
+    (a .told .says ∙ ap (λ (t : List ℕ). answer t out) h ∙ sym (b .told .says), a .told .leaves ∙ ap (λ (t : List ℕ). left t out) h ∙ sym (b .told .leaves))

@@ -15,9 +15,13 @@ use Rattle.report.specs.RunText.{runText}
 abbrev pub wordLine : List ℕ → ℕ → ℕ → List ℕ
 wordLine w m n = w ++ (32 ∷ decimal m ++ (32 ∷ decimal n ++ (10 ∷ [])))
 
+-- "`compliant N`"
+abbrev pub compliantText : ℕ → List ℕ
+compliantText n = bytes "compliant" ++ (32 ∷ decimal n ++ (10 ∷ []))
+
 -- "`compliant N`, or `stuck CAUSE LENGTH` and the run"
 unfoldable pub judgedText : Behaviour → Behaviour → Judgement → List ℕ
-judgedText c s (compliant n) = bytes "compliant" ++ (32 ∷ decimal n ++ (10 ∷ []))
+judgedText c s (compliant n) = compliantText n
 judgedText c s (stuck e r) = wordLine (bytes "stuck") e (length r) ++ runText c s r
 
 -- "`client` or `server`, the refusal number and the place"

@@ -17,9 +17,13 @@ answer text out = if (room text out) (Bytes (length text)) (Refused tooLong)
 abbrev pub left : List ℕ → List ℕ → List ℕ
 left text out = if (room text out) (text ++ drop (length text) out) out
 
--- for the files f and g and the buffer out the answer is r, and the buffer is then e
+-- the text is told: the answer is r, and the buffer is then e
+pub record Tells (text out : List ℕ) (r : Reported) (e : List ℕ) : Type 0 where
+  pub says : r ≡ answer text out
+  pub leaves : e ≡ left text out
+
+-- what the files f and g give is told
 pub record Reports (f g out : List ℕ) (r : Reported) (e : List ℕ) : Type 0 where
   pub text : List ℕ
   pub prints : Prints f g text
-  pub says : r ≡ answer text out
-  pub leaves : e ≡ left text out
+  pub told : Tells text out r e

@@ -1,22 +1,19 @@
 -- Reading a written file is adding its lines.
-use mathlib.Core.Path.{_≡_, refl, sym, ap, subst, _∙_}
+use mathlib.Core.Path.{_≡_, refl}
 use mathlib.Core.List.{List, [], _∷_, _++_}
-use mathlib.Core.Bool.{Bool, true, false, _&&_}
-use Prim.Native.Nat.{ℕ, zero, suc, _+_, _<_, _≤_}
+use Prim.Native.Nat.{ℕ, _+_, _<_, _≤_}
 use native.Mathlib.Omega.{arith}
 use borrow.Author.Tests.{le-leb}
-use lib.Dec.{eqb, leb}
+use lib.Dec.{eqb}
 use lib.ListN.{length}
 use Rattle.names.specs.If.{if}
-use Rattle.tokens.specs.Parse.{Got, got, off}
-use Rattle.tokens.specs.Lines.{line, head}
 use Rattle.tokens.specs.declared.Line.{Line}
 use Rattle.behaviour.specs.declared.Behaviour.{Behaviour}
 use Rattle.behaviour.specs.Limits.{mostStates, mostLines, mostBytes}
 use Rattle.aut.specs.declared.Read.{Read}
 use Rattle.aut.specs.Adding.{bare, add, check}
 use Rattle.aut.specs.File.{refuse, finish, lines, file}
-use Rattle.writer.specs.Spelling.{lineText, headText}
+use Rattle.writer.specs.Spelling.{headText}
 use Rattle.writer.specs.Text.{linesText}
 use Rattle.roundtrip.specs.Lines.{Allowed, line-back, head-back}
 

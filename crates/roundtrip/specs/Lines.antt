@@ -1,24 +1,23 @@
 -- Reading a written line gives it back.
-use mathlib.Core.Path.{_≡_, refl, sym, ap, subst, _∙_}
-use mathlib.Core.List.{List, [], _∷_, _++_, append-assoc, append-nil}
+use mathlib.Core.Path.{_≡_, refl, subst}
+use mathlib.Core.List.{List, [], _∷_, _++_, append-assoc}
 use mathlib.Core.Bool.{Bool, true, false, _&&_, _||_}
-use Prim.Native.Nat.{ℕ, zero, suc, _+_, _-_, _*_, _/_, _%_, _<_, _≤_}
+use Prim.Native.Nat.{ℕ, zero, suc, _+_, _-_, _/_, _%_, _<_, _≤_}
 use native.Mathlib.Omega.{arith}
-use borrow.Author.Tests.{eq-eqb, ne-eqb, leb-true, leb-false}
+use borrow.Author.Tests.{ne-eqb, leb-true}
 use lib.Dec.{eqb, leb, ltb}
 use Rattle.names.specs.If.{if}
-use Rattle.names.specs.Names.{nameBytes, isNameByte, nameNumber, full, padded, isName, nameText, textOf}
-use Rattle.tokens.specs.Parse.{Got, got, off, andThen, nothing}
-use Rattle.tokens.specs.Tokens.{spaces, byte, number, text, prepend, some, quoted, labelled, label, taken, sent, word}
-use Rattle.tokens.specs.Lines.{line, head, after, ending, spaced}
+use Rattle.names.specs.Names.{nameBytes, isNameByte, full, padded, isName, nameText}
+use Rattle.tokens.specs.Parse.{got}
+use Rattle.tokens.specs.Tokens.{spaces, byte, number, text, some, quoted, labelled, label, word}
+use Rattle.tokens.specs.Lines.{line, head}
 use Rattle.tokens.specs.declared.Label.{Label}
 use Rattle.tokens.specs.declared.Label.the-variants.{Mark, Take, Send, Other}
 use Rattle.tokens.specs.declared.Line.{Line}
-use Rattle.tokens.specs.declared.Head.{Head}
 use Rattle.writer.specs.Spelling.{decimalOf, decimal, labelText, opening, closing, lineText, headText}
-use Rattle.roundtrip.specs.Bools.{never, both}
+use Rattle.behaviour.specs.SoundLaws.{no, both}
 use Rattle.roundtrip.specs.Names.{not-zero, name-back}
-use Rattle.roundtrip.specs.Numbers.{Apart, other, number-back}
+use Rattle.roundtrip.specs.Numbers.{other, number-back}
 
 -- a number begins with no space
 dec-spaces : (k n : ℕ) (r : List ℕ) → spaces (decimalOf k n ++ r) ≡ decimalOf k n ++ r
@@ -51,7 +50,7 @@ name-low c e = go (leb 97 c) (leb 48 c) refl refl e
     go : (s t : Bool) → leb 97 c ≡ s → leb 48 c ≡ t → ((s && leb c 122) || (t && leb c 57)) ≡ true → 48 ≤ c
     go true t p q h = let k : 97 ≤ c = leb-true 97 c p in omega arith
     go false true p q h = leb-true 48 c q
-    go false false p q h = never h
+    go false false p q h = no h
 
 full-plain : (k n : ℕ) → full k n ≡ true → Plain (nameText k n)
 unfolding full nameText
@@ -81,7 +80,7 @@ Allowed Other = ⊥
 name-there : (n : ℕ) → isName n ≡ true → n ≡ 0 → ⊥
 unfolding padded
 name-there n e z =
-    let h : isName 0 ≡ true = subst (λ (x : ℕ). isName x ≡ true) z e in never h
+    let h : isName 0 ≡ true = subst (λ (x : ℕ). isName x ≡ true) z e in no h
 
 label-back : (l : Label) → Allowed l → label (labelText l) ≡ l
 unfolding label word byte

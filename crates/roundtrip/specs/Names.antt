@@ -1,15 +1,15 @@
 -- Reading a written name gives it back.
 use mathlib.Core.Path.{_≡_, refl, sym, ap, _∙_}
 use mathlib.Core.List.{List, [], _∷_, _++_, append-assoc, append-nil}
-use mathlib.Core.Bool.{Bool, true, false, _&&_}
+use mathlib.Core.Bool.{Bool, true, false}
 use Prim.Native.Nat.{ℕ, zero, suc, _+_, _-_, _*_, _/_, _%_, _<_, _≤_}
 use native.Mathlib.Numerals.{sub-one}
 use native.Mathlib.Omega.{arith}
-use borrow.Author.Tests.{eqb-true, eqb-false, eq-eqb, ne-eqb}
+use borrow.Author.Tests.{eqb-true, ne-eqb}
 use lib.Dec.{eqb}
 use Rattle.names.specs.If.{if}
 use Rattle.names.specs.Names.{nameBytes, isNameByte, name, nameNumber, full, padded, isName, nameText, textOf}
-use Rattle.roundtrip.specs.Bools.{never, both}
+use Rattle.behaviour.specs.SoundLaws.{no, both}
 
 name-one : (j v c : ℕ) (r : List ℕ) → 0 < j → isNameByte c ≡ true → name j v (c ∷ r) ≡ name (j - 1) (v * 256 + c) r
 unfolding name
@@ -17,10 +17,10 @@ name-one zero v c r p e = absurd (omega arith)
 name-one (suc j) v c r p e = rw (e, sub-one)
 
 pub not-zero : (c : ℕ) → isNameByte c ≡ true → eqb c 0 ≡ false
-not-zero zero e = never e
+not-zero zero e = no e
 not-zero (suc c) e = ne-eqb (suc c) 0 (omega arith)
 
--- k bytes are read, and 8 - k more may follow
+-- k bytes are read, and the others may follow
 full-read : (k n : ℕ) (r : List ℕ) → k ≤ nameBytes → full k n ≡ true → nameNumber (nameText k n ++ r) ≡ name (nameBytes - k) n r
 unfolding full nameText
 full-read zero n r q e = ap (λ (x : ℕ). name nameBytes x r) (sym (eqb-true n 0 e))
@@ -48,7 +48,7 @@ name-step k n q i false z e = rw append-nil at (full-read (suc k) n [] (omega ar
 
 name-read : (k n : ℕ) → k ≤ nameBytes → padded k n ≡ true → nameNumber (nameText k n) ≡ name (nameBytes - k) n []
 unfolding padded
-name-read zero n q e = never e
+name-read zero n q e = no e
 name-read (suc k) n q e = name-step k n (omega arith) (λ h. name-read k (n / 256) (omega arith) h) (eqb (n % 256) 0) refl e
 
 pub name-back : (n : ℕ) → isName n ≡ true → nameNumber (textOf n) ≡ n

@@ -1,15 +1,14 @@
 -- Reading a written number gives it back.
-use mathlib.Core.Path.{_≡_, refl, sym, ap, _∙_}
+use mathlib.Core.Path.{_≡_, refl, ap, _∙_}
 use mathlib.Core.List.{List, [], _∷_, _++_, append-assoc}
-use mathlib.Core.Bool.{Bool, true, false, _&&_}
-use mathlib.Core.Logic.{_⊎_, inl, inr}
-use Prim.Native.Nat.{ℕ, zero, suc, _+_, _-_, _*_, _/_, _%_, _<_, _≤_, _^_}
+use mathlib.Core.Bool.{Bool, true, false}
+use Prim.Native.Nat.{ℕ, zero, suc, _+_, _-_, _*_, _/_, _%_, _<_, _≤_}
 use native.Mathlib.Numerals.{sub-one}
 use native.Mathlib.Omega.{arith}
-use borrow.Author.Tests.{eq-eqb, ne-eqb, le-leb, lt-leb, lt-ltb, le-ltb, ltb-true, ltb-false}
-use lib.Dec.{ltb, leb, eqb}
+use borrow.Author.Tests.{ne-eqb, le-leb, ltb-true, ltb-false}
+use lib.Dec.{ltb}
 use Rattle.names.specs.If.{if}
-use Rattle.tokens.specs.Parse.{Got, got, off}
+use Rattle.tokens.specs.Parse.{got}
 use Rattle.tokens.specs.Tokens.{digits, number, isDigit}
 use Rattle.writer.specs.Spelling.{decimalOf, decimal, tens}
 

@@ -1,13 +1,13 @@
 -- Whatever is read is valid.
-use mathlib.Core.Path.{_≡_, refl, sym, ap, ap₂, subst, _∙_}
-use mathlib.Core.List.{List, [], _∷_, _++_, append-assoc, append-nil}
-use mathlib.Core.Bool.{Bool, true, false, _&&_, _||_}
+use mathlib.Core.Path.{_≡_, refl, sym, ap, subst, _∙_}
+use mathlib.Core.List.{List, [], _∷_}
+use mathlib.Core.Bool.{Bool, true, false, _&&_}
 use mathlib.Core.Logic.{_⊎_, inl, inr}
 use Prim.Native.Nat.{ℕ, zero, suc, _+_, _-_, _<_, _≤_}
 use native.Mathlib.Omega.{arith}
-use borrow.Author.Tests.{eq-eqb, ne-eqb, lt-ltb, le-ltb, ltb-true, ltb-false, eqb-true, eqb-false, leb-true, leb-false}
+use borrow.Author.Tests.{ltb-true, ltb-false, eqb-true, eqb-false, leb-true}
 use lib.Dec.{eqb, leb, ltb}
-use lib.ListN.{length, length-append, length-set, length-replicate, getD, set, take, drop, replicate}
+use lib.ListN.{length, length-set, getD, set, replicate}
 use lib.Seq.{take-append-seam, drop-append-add}
 use Rattle.names.specs.If.{if}
 use Rattle.names.specs.Names.{isName}
@@ -20,13 +20,12 @@ use Rattle.tokens.specs.declared.Head.{Head}
 use Rattle.behaviour.specs.declared.Message.{Message}
 use Rattle.behaviour.specs.declared.Behaviour.{Behaviour}
 use Rattle.behaviour.specs.Limits.{mostStates, mostLines, mostBytes}
-use Rattle.behaviour.specs.Sound.{messages, before, total}
+use Rattle.behaviour.specs.Sound.{messages, total}
 use Rattle.aut.specs.declared.Read.{Read}
-use Rattle.aut.specs.Adding.{insert, has, unused, bare, add, addLabel, addMark, addMessage, check, checkLabel, checkMessage}
+use Rattle.aut.specs.Adding.{insert, has, unused, bare, add, addLabel, addMessage, check, checkLabel, checkMessage}
 use Rattle.aut.specs.File.{refuse, accept, markedFinished, finish, next, lines, begin, file}
 use Rattle.writer.specs.Text.{afterState}
-use Rattle.roundtrip.specs.Bools.{never}
-use Rattle.roundtrip.specs.Rebuild.{holding, AllBetween, Signed, Settled, rest-zero}
+use Rattle.roundtrip.specs.Rebuild.{holding, AllBetween, Settled, rest-zero}
 use Rattle.roundtrip.specs.Sorted.{Sorted, least, insert-sorted, insert-between, insert-length, settled-message, settled-mark}
 use Rattle.roundtrip.specs.RoundTrip.{Valid}
 use Rattle.roundtrip.specs.Fair.{LabelFair, All, line-fair}

@@ -1,29 +1,27 @@
--- The linesFrom of a sound value, added one after the other, give the value.
+-- The lines of a sound value, added one after the other, give the value.
 use mathlib.Core.Path.{_≡_, refl, sym, ap, ap₂, subst, _∙_}
 use mathlib.Core.List.{List, [], _∷_, _++_, append-assoc, append-nil}
 use mathlib.Core.Bool.{Bool, true, false, _&&_, _||_}
 use mathlib.Core.Logic.{_⊎_, inl, inr}
-use Prim.Native.Nat.{ℕ, zero, suc, _+_, _-_, _*_, _/_, _%_, _<_, _≤_}
-use native.Mathlib.Numerals.{add-one}
+use Prim.Native.Nat.{ℕ, suc, _+_, _-_, _<_, _≤_}
 use native.Mathlib.Omega.{arith}
-use borrow.Author.Tests.{eq-eqb, ne-eqb, lt-ltb, le-ltb, le-leb, ltb-true, ltb-false, eqb-true, eqb-false}
-use lib.Dec.{eqb, leb, ltb}
-use lib.ListN.{length, length-append, getD, set, take, drop, replicate}
+use borrow.Author.Tests.{eq-eqb, ne-eqb, lt-ltb, le-ltb, ltb-true, eqb-true}
+use lib.Dec.{eqb, ltb}
+use lib.ListN.{length, length-append, getD, set, drop, replicate}
 use lib.Seq.{take-append-seam, drop-append-add, set-at, getD-at}
 use Rattle.names.specs.If.{if}
 use Rattle.names.specs.Names.{isName}
-use Rattle.tokens.specs.declared.Label.{Label}
-use Rattle.tokens.specs.declared.Label.the-variants.{Mark, Take, Send, Other}
+use Rattle.tokens.specs.declared.Label.the-variants.{Mark}
 use Rattle.tokens.specs.declared.Line.{Line}
 use Rattle.behaviour.specs.declared.Message.{Message}
 use Rattle.behaviour.specs.declared.Behaviour.{Behaviour}
-use Rattle.behaviour.specs.Limits.{mostStates, mostLines}
+use Rattle.behaviour.specs.Limits.{mostLines}
 use Rattle.behaviour.specs.Sound.{messages, before}
 use Rattle.aut.specs.declared.Read.{Read}
-use Rattle.aut.specs.Adding.{insert, has, unused, bare, add, addLabel, addMark, addMessage, check, checkLabel, checkMessage}
-use Rattle.aut.specs.File.{refuse, finish}
-use Rattle.writer.specs.Text.{messageLabel, messageLine, markLine, messageLines, afterState, linesFrom}
-use Rattle.roundtrip.specs.Bools.{never, neverTrue}
+use Rattle.aut.specs.Adding.{insert, has, unused, add, addMessage, check, checkMessage}
+use Rattle.aut.specs.File.{finish}
+use Rattle.writer.specs.Text.{messageLine, markLine, messageLines, afterState, linesFrom}
+use Rattle.behaviour.specs.SoundLaws.{no}
 use Rattle.roundtrip.specs.AddAll.{addAll}
 
 -- the value with the messages a
@@ -48,8 +46,8 @@ order x m e = go (ltb (x .from) (m .from)) (eqb (x .from) (m .from)) (ltb (x .na
         → (x .from < m .from) ⊎ ((x .from ≡ m .from) × (x .name < m .name))
     go true t u p q r h = inl (ltb-true _ _ p)
     go false true true p q r h = inr (eqb-true _ _ q, ltb-true _ _ r)
-    go false true false p q r h = never h
-    go false false u p q r h = never h
+    go false true false p q r h = no h
+    go false false u p q r h = no h
 
 pub not-back : (x m : Message) → before x m ≡ true → before m x ≡ false
 not-back x m e = go (order x m e)

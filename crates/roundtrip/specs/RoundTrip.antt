@@ -1,9 +1,9 @@
 -- The round trip: reading what is written of a valid value gives the value.
-use mathlib.Core.Path.{_≡_, refl, sym, ap, ap₂, subst, _∙_}
-use mathlib.Core.List.{List, [], _∷_, _++_, append-assoc, append-nil}
+use mathlib.Core.Path.{_≡_, refl, sym, ap, subst, _∙_}
+use mathlib.Core.List.{List, [], _∷_, _++_}
 use mathlib.Core.Bool.{Bool, true, false}
 use mathlib.Core.Logic.{_⊎_, inl, inr}
-use Prim.Native.Nat.{ℕ, zero, suc, _+_, _-_, _<_, _≤_}
+use Prim.Native.Nat.{ℕ, suc, _+_, _-_, _<_, _≤_}
 use native.Mathlib.Omega.{arith}
 use borrow.Author.Tests.{eq-eqb, ne-eqb, le-ltb}
 use lib.Dec.{eqb}
@@ -11,8 +11,7 @@ use lib.ListN.{length, length-append, replicate}
 use lib.Seq.{take-append-seam}
 use Rattle.names.specs.If.{if}
 use Rattle.names.specs.Names.{isName}
-use Rattle.tokens.specs.declared.Label.{Label}
-use Rattle.tokens.specs.declared.Label.the-variants.{Mark, Take, Send, Other}
+use Rattle.tokens.specs.declared.Label.the-variants.{Mark, Take, Send}
 use Rattle.tokens.specs.declared.Line.{Line}
 use Rattle.behaviour.specs.declared.Message.{Message}
 use Rattle.behaviour.specs.declared.Behaviour.{Behaviour}
@@ -22,12 +21,12 @@ use Rattle.aut.specs.declared.Read.{Read}
 use Rattle.aut.specs.Adding.{unused, bare}
 use Rattle.aut.specs.File.{markedFinished, finish, accept, file}
 use Rattle.writer.specs.Spelling.{headText}
-use Rattle.writer.specs.Text.{messageLabel, messageLine, markLine, messageLines, afterState, linesFrom, linesOf, linesText, lineCount, text}
+use Rattle.writer.specs.Text.{messageLabel, messageLine, markLine, messageLines, afterState, linesFrom, linesText, lineCount, text}
 use Rattle.writer.specs.Lengths.{parts-length, text-few}
 use Rattle.roundtrip.specs.Lines.{Allowed}
-use Rattle.roundtrip.specs.AddAll.{addAll, Writable, Each, none, more, file-added}
+use Rattle.roundtrip.specs.AddAll.{addAll, Each, none, more, file-added}
 use Rattle.roundtrip.specs.Rebuild.{holding, AllBetween, Settled, lines-rebuilt}
-use Rattle.roundtrip.specs.Sorted.{Sorted, sorted-ascend}
+use Rattle.roundtrip.specs.Sorted.{Sorted, sorted-ascend, between-after}
 
 each-append : (a b : List Line) → Each a → Each b → Each (a ++ b)
 each-append [] b p q = q
@@ -52,15 +51,6 @@ module _ (s : ℕ) (high : s ≤ mostStates) where
           more {l = messageLine g m} (record { from-low = omega arith; to-low = omega arith; allowed = signed-allowed g (m .name) (v .0 .2) }) h
       go false h = none
 
-  between-after : (k : ℕ) (ms : List Message) → AllBetween s ms → AllBetween s (afterState k ms)
-  unfolding afterState
-  between-after k [] v = tt
-  between-after k (m ∷ ms) v = go (eqb (m .from) k) (between-after k ms (v .1))
-    where
-      go : (t : Bool) → AllBetween s (afterState k ms) → AllBetween s (if t (afterState k ms) (m ∷ ms))
-      go true h = h
-      go false h = v
-
   each-mark : (k m : ℕ) → (m ≡ 0) ⊎ ((m ≡ 1) × (k < s)) → Each (markLine k m)
   each-mark k m (inl z) = rw (ne-eqb m 1 (omega arith)) none
   each-mark k m (inr z) = let l = z .1 in rw (eq-eqb m 1 (z .0)) (more {l = record { from = k; label = Mark; to = k }} (record { from-low = omega arith; to-low = omega arith; allowed = tt }) none)
@@ -72,7 +62,7 @@ module _ (s : ℕ) (high : s ≤ mostStates) where
   each-line (m ∷ mk) [] k ms o v = none
   each-line (m ∷ mk) (g ∷ gs) k ms o v =
       each-append (markLine k m) _ (each-mark k m (o .0))
-      (each-append (messageLines k g ms) _ (each-message k g ms v) (each-line mk gs (k + 1) (afterState k ms) (o .2) (between-after k ms v)))
+      (each-append (messageLines k g ms) _ (each-message k g ms v) (each-line mk gs (k + 1) (afterState k ms) (o .2) (between-after s k ms v)))
 
 -- marks and messages are all written
 lines-counted : (s k : ℕ) (ms gs : List ℕ) (l : List Message) → Settled s k ms gs l → length (linesFrom k ms gs l) ≡ total ms + length l

@@ -1,11 +1,11 @@
 -- Sorted messages stay sorted, and a value stays sound, where a message is inserted.
-use mathlib.Core.Path.{_≡_, refl, sym, ap, ap₂, subst, _∙_}
-use mathlib.Core.List.{List, [], _∷_, _++_, append-assoc, append-nil}
+use mathlib.Core.Path.{_≡_, refl, sym, subst}
+use mathlib.Core.List.{List, [], _∷_, _++_}
 use mathlib.Core.Bool.{Bool, true, false, _&&_, _||_}
 use mathlib.Core.Logic.{_⊎_, inl, inr}
 use Prim.Native.Nat.{ℕ, zero, suc, _+_, _-_, _<_, _≤_}
 use native.Mathlib.Omega.{arith}
-use borrow.Author.Tests.{eq-eqb, ne-eqb, lt-ltb, le-ltb, ltb-true, ltb-false, eqb-true, eqb-false}
+use borrow.Author.Tests.{eq-eqb, ne-eqb, lt-ltb, le-ltb, ltb-false, eqb-true, eqb-false}
 use lib.Dec.{eqb, ltb}
 use lib.ListN.{length, set}
 use Rattle.names.specs.If.{if}
@@ -14,8 +14,8 @@ use Rattle.behaviour.specs.declared.Message.{Message}
 use Rattle.behaviour.specs.Sound.{before}
 use Rattle.aut.specs.Adding.{insert, has}
 use Rattle.writer.specs.Text.{afterState}
-use Rattle.roundtrip.specs.Bools.{never, neverTrue}
-use Rattle.roundtrip.specs.Rebuild.{Below, Ascend, AllBetween, pick, Signed, Settled, order, not-back, not-same}
+use Rattle.roundtrip.specs.Bools.{never}
+use Rattle.roundtrip.specs.Rebuild.{Below, Ascend, AllBetween, Signed, Settled, order}
 
 abbrev pub Above : Message → List Message → Type 0
 Above m [] = Unit {0}
@@ -46,15 +46,15 @@ other-way : (m x : Message) → before m x ≡ false → Same x m ≡ false → 
 other-way m x e d = go (ltb (m .from) (x .from)) (eqb (m .from) (x .from)) (ltb (m .name) (x .name)) refl refl refl e
   where
     same : m .from ≡ x .from → m .name ≡ x .name → before x m ≡ true
-    same p q = neverTrue (simp (eq-eqb (x .from) (m .from) (sym p), eq-eqb (x .name) (m .name) (sym q)) at d)
+    same p q = never (simp (eq-eqb (x .from) (m .from) (sym p), eq-eqb (x .name) (m .name) (sym q)) at d)
 
     by-name : m .from ≡ x .from → x .name ≤ m .name → (t : Bool) → eqb (m .name) (x .name) ≡ t → before x m ≡ true
     by-name p q true r = same p (eqb-true _ _ r)
     by-name p q false r = let n : m .name ≡ x .name → ⊥ = eqb-false _ _ r in comes x m (inr (sym p, omega arith))
 
     go : (s t u : Bool) → ltb (m .from) (x .from) ≡ s → eqb (m .from) (x .from) ≡ t → ltb (m .name) (x .name) ≡ u → (s || (t && u)) ≡ false → before x m ≡ true
-    go true t u p q r h = neverTrue h
-    go false true true p q r h = neverTrue h
+    go true t u p q r h = never h
+    go false true true p q r h = never h
     go false true false p q r h = by-name (eqb-true _ _ q) (ltb-false _ _ r) (eqb (m .name) (x .name)) refl
     go false false u p q r h =
         let n : m .from ≡ x .from → ⊥ = eqb-false _ _ q in let l : x .from ≤ m .from = ltb-false _ _ p in comes x m (inl (omega arith))
@@ -98,7 +98,7 @@ unfolding has
 has-parts m x l h = go (Same x m) refl h
   where
     go : (t : Bool) → Same x m ≡ t → if t true (has (m .from) (m .name) l) ≡ false → (Same x m ≡ false) × (has (m .from) (m .name) l ≡ false)
-    go true e h = neverTrue h
+    go true e h = never h
     go false e h = (e, h)
 
 pub insert-sorted : (m : Message) (l : List Message) → Sorted l → has (m .from) (m .name) l ≡ false → Sorted (insert m l)
@@ -183,11 +183,20 @@ after-sorted k (x ∷ l) s a = go (eqb (x .from) k) refl (after-sorted k l (s .1
         let q : k + 1 ≤ x .from = omega arith in
         (s, (q, least-above (k + 1) x l (s .0) q))
 
+pub between-after : (s k : ℕ) (l : List Message) → AllBetween s l → AllBetween s (afterState k l)
+unfolding afterState
+between-after s k [] b = tt
+between-after s k (m ∷ l) b = go (eqb (m .from) k) (between-after s k l (b .1))
+  where
+    go : (t : Bool) → AllBetween s (afterState k l) → AllBetween s (if t (afterState k l) (m ∷ l))
+    go true h = h
+    go false h = b
+
 not-low : (m x : Message) → before m x ≡ false → x .from ≤ m .from
 not-low m x e = go (ltb (m .from) (x .from)) refl e
   where
     go : (t : Bool) → ltb (m .from) (x .from) ≡ t → (t || (eqb (m .from) (x .from) && ltb (m .name) (x .name))) ≡ false → x .from ≤ m .from
-    go true p h = neverTrue h
+    go true p h = never h
     go false p h = ltb-false _ _ p
 
 low : (m x : Message) → before m x ≡ true → m .from ≤ x .from

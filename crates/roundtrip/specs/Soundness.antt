@@ -1,6 +1,6 @@
 -- The test of soundness, and what reading and writing know of a value.
 use mathlib.Core.Path.{_≡_, refl, sym, ap, ap₂, subst, _∙_}
-use mathlib.Core.List.{List, [], _∷_, _++_}
+use mathlib.Core.List.{List, [], _∷_}
 use mathlib.Core.Bool.{Bool, true, false, _&&_, _||_, not}
 use mathlib.Core.Logic.{_⊎_, inl, inr}
 use Prim.Native.Nat.{ℕ, zero, suc, _+_, _-_, _<_, _≤_}
@@ -11,13 +11,14 @@ use lib.ListN.{length, replicate}
 use Rattle.names.specs.If.{if}
 use Rattle.names.specs.Names.{isName}
 use Rattle.behaviour.specs.declared.Message.{Message}
-use Rattle.behaviour.specs.Sound.{before, leads, sorted, between, allBetween, blank, allBlank, speaks, signed, markable, settled}
+use Rattle.behaviour.specs.Sound.{leads, sorted, between, allBetween, blank, allBlank, speaks, signed, markable, settled}
 use Rattle.aut.specs.Adding.{unused}
 use Rattle.aut.specs.File.{markedFinished}
 use Rattle.writer.specs.Text.{afterState}
-use Rattle.roundtrip.specs.Bools.{never, neverTrue, both, joined}
+use Rattle.behaviour.specs.SoundLaws.{no, both}
+use Rattle.roundtrip.specs.Bools.{joined}
 use Rattle.roundtrip.specs.Rebuild.{AllBetween, pick, Signed, Settled}
-use Rattle.roundtrip.specs.Sorted.{Above, Sorted, AtLeast, above-trans, least-above, after-sorted}
+use Rattle.roundtrip.specs.Sorted.{Above, Sorted, AtLeast, above-trans, least-above, after-sorted, between-after}
 
 -- each message before the next, and each before all that follow
 pub sorted-of : (l : List Message) → sorted l ≡ true → Sorted l
@@ -137,8 +138,8 @@ markable-of m g e = go (eqb m 0) refl e
     go false p h = let b = both (eqb m 1) (not (eqb g 0)) h in inr (eqb-true m 1 (b .0), λ z. zero-sign (eqb g 0) (eq-eqb g 0 z) (b .1))
       where
         zero-sign : (u : Bool) → u ≡ true → not u ≡ true → ⊥
-        zero-sign true p q = never q
-        zero-sign false p q = never p
+        zero-sign true p q = no q
+        zero-sign false p q = no p
 
 markable-back : (m g : ℕ) → (m ≡ 0) ⊎ ((m ≡ 1) × (g ≡ 0 → ⊥)) → markable m g ≡ true
 markable-back m g (inl e) = rw (eq-eqb m 0 e)
@@ -152,15 +153,6 @@ below-states s k g (m ∷ l) b o n = go (eqb (m .from) k) refl o
     go : (t : Bool) → eqb (m .from) k ≡ t → pick t ((g ≡ 1) ⊎ (g ≡ 2)) (g ≡ 0) → k < s
     go true e o = let f : m .from ≡ k = eqb-true _ _ e in let h = b .0 .0 in omega arith
     go false e o = absurd (n o)
-
-between-after : (s k : ℕ) (l : List Message) → AllBetween s l → AllBetween s (afterState k l)
-unfolding afterState
-between-after s k [] b = tt
-between-after s k (m ∷ l) b = go (eqb (m .from) k) (between-after s k l (b .1))
-  where
-    go : (t : Bool) → AllBetween s (afterState k l) → AllBetween s (if t (afterState k l) (m ∷ l))
-    go true h = h
-    go false h = b
 
 -- the mark and the sign of the state k, and the rest
 parts : (k m g : ℕ) (ms gs : List ℕ) (l : List Message) → settled k (m ∷ ms) (g ∷ gs) l ≡ true
@@ -222,4 +214,4 @@ settled-back s k (m ∷ ms) (g ∷ gs) l o a h u =
 
     mark : (m ≡ 0) ⊎ ((m ≡ 1) × (k < s)) → (eqb m 1 && eqb g 0) ≡ false → (m ≡ 0) ⊎ ((m ≡ 1) × (g ≡ 0 → ⊥))
     mark (inl z) e = inl z
-    mark (inr z) e = inr (z .0, λ y. never (sym e ∙ joined (eq-eqb m 1 (z .0)) (eq-eqb g 0 y)))
+    mark (inr z) e = inr (z .0, λ y. no (sym e ∙ joined (eq-eqb m 1 (z .0)) (eq-eqb g 0 y)))

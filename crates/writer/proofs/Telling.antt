@@ -1,6 +1,6 @@
 -- The loops over the messages of a state, and over the states.
-use mathlib.Core.Path.{_≡_, refl, sym, ap, _∙_}
-use mathlib.Core.List.{List, [], _∷_, _++_}
+use mathlib.Core.Path.{_≡_, refl, sym, _∙_}
+use mathlib.Core.List.{List, _++_}
 use Prim.Native.Nat.{ℕ, _+_, _-_, _<_, _≤_}
 use native.Mathlib.Omega.{arith}
 use lib.ListN.{length, getD, take, drop}
@@ -8,10 +8,9 @@ use Rattle.behaviour.specs.declared.Message.{Message}
 use Rattle.behaviour.specs.Limits.{mostStates}
 use Rattle.behaviour.specs.Pick.{nil}
 use Rattle.writer.specs.Spelling.{lineText}
-use Rattle.writer.specs.Text.{messageLine, markLine, messageLines, afterState, linesFrom, linesText}
+use Rattle.writer.specs.Text.{messageLine, markLine, messageLines, afterState, linesText}
 use Rattle.writer.specs.Putting.{Short, Put}
-use Rattle.writer.proofs.Puts.{put-as}
-use Rattle.writer.proofs.Onward.{Onward, onward-start, onward-as, onward-short, onward-step, onward-end}
+use Rattle.writer.proofs.Onward.{Onward, onward-start, onward-short, onward-step, onward-end}
 use Rattle.writer.proofs.States.{message-here, after-here, message-none, after-none, message-end, after-end, ahead, state-here, state-end}
 
 -- the messages from i on, of the n that are used

@@ -1,20 +1,18 @@
 -- The whole text: the first line and the lines, and what `write` answers and leaves.
-use mathlib.Core.Path.{_≡_, refl, sym, ap, _∙_}
-use mathlib.Core.List.{List, [], _∷_, _++_}
-use mathlib.Core.Bool.{Bool, true, false, _&&_}
+use mathlib.Core.Path.{_≡_, sym, _∙_}
+use mathlib.Core.List.{List, _++_}
+use mathlib.Core.Bool.{true, false}
 use Prim.Native.Nat.{ℕ, _+_, _<_, _≤_}
 use native.Mathlib.Omega.{arith}
 use borrow.Author.Tests.{le-leb, lt-leb}
 use lib.Dec.{leb}
-use lib.ListN.{length, take, drop}
-use lib.Seq.{sets, sets-eq}
-use Rattle.names.specs.If.{if}
+use lib.ListN.{length, take}
+use lib.Seq.{sets-eq}
 use Rattle.behaviour.specs.declared.Behaviour.{Behaviour}
-use Rattle.behaviour.specs.Limits.{mostLines, mostBytes}
+use Rattle.behaviour.specs.Limits.{mostLines}
 use Rattle.behaviour.specs.Sound.{total, sound}
 use Rattle.behaviour.specs.Refusals.{refusal}
 use Rattle.behaviour.specs.SoundLaws.{parts}
-use Rattle.writer.specs.declared.Written.{Written}
 use Rattle.writer.specs.declared.Written.the-variants.{Bytes, Refused}
 use Rattle.writer.specs.Spelling.{headText}
 use Rattle.writer.specs.Text.{linesFrom, linesText, lineCount, text}

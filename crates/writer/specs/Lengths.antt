@@ -1,12 +1,11 @@
 -- How long a text is: that of a sound value is within the limit of a file.
-use mathlib.Core.Path.{_≡_, refl, sym, ap, _∙_}
+use mathlib.Core.Path.{_≡_, refl}
 use mathlib.Core.List.{List, [], _∷_, _++_}
-use mathlib.Core.Bool.{Bool, true, false, _&&_}
+use mathlib.Core.Bool.{Bool, true, false}
 use Prim.Native.Nat.{ℕ, zero, suc, _+_, _*_, _/_, _%_, _≤_}
 use native.Mathlib.Omega.{arith}
-use borrow.Author.Tests.{leb-true}
-use lib.Dec.{eqb, ltb, leb}
-use lib.ListN.{length, take, length-append, length-take}
+use lib.Dec.{eqb, ltb}
+use lib.ListN.{length, take, length-append}
 use Rattle.names.specs.If.{if}
 use Rattle.names.specs.Names.{nameBytes, nameText}
 use Rattle.tokens.specs.declared.Label.{Label}
@@ -14,8 +13,8 @@ use Rattle.tokens.specs.declared.Label.the-variants.{Mark, Take, Send, Other}
 use Rattle.tokens.specs.declared.Line.{Line}
 use Rattle.behaviour.specs.declared.Message.{Message}
 use Rattle.behaviour.specs.declared.Behaviour.{Behaviour}
-use Rattle.behaviour.specs.Limits.{mostStates, mostLines, mostBytes}
-use Rattle.behaviour.specs.Sound.{messages, total, sound}
+use Rattle.behaviour.specs.Limits.{mostLines, mostBytes}
+use Rattle.behaviour.specs.Sound.{messages, total}
 use Rattle.writer.specs.Spelling.{decimalOf, labelText, opening, closing, lineText, headText}
 use Rattle.writer.specs.Text.{messageLine, messageLines, afterState, linesFrom, linesOf, linesText, lineCount, text}
 

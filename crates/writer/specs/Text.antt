@@ -4,7 +4,7 @@ use Prim.Native.Nat.{ℕ, _+_}
 use lib.Dec.{eqb}
 use Rattle.names.specs.If.{if}
 use Rattle.tokens.specs.declared.Label.{Label}
-use Rattle.tokens.specs.declared.Label.the-variants.{Mark, Take, Send, Other}
+use Rattle.tokens.specs.declared.Label.the-variants.{Mark, Take, Send}
 use Rattle.tokens.specs.declared.Line.{Line}
 use Rattle.behaviour.specs.declared.Message.{Message}
 use Rattle.behaviour.specs.declared.Behaviour.{Behaviour}

@@ -1,15 +1,14 @@
-// Writing a description file.
+// Writing a description file: the text of a value, put piece by piece.
 ghost use mathlib.Core.Path.{_≡_};
 ghost use mathlib.Core.List.{_∷_, []};
 ghost use Prim.Native.Nat.{_-_, _<_, _≤_};
 ghost use lib.ListN.{length, drop, take};
 ghost use Rattle.names.specs.Names.{nameText};
 ghost use Rattle.behaviour.specs.Limits.{mostLines};
-ghost use Rattle.behaviour.specs.Sound.{sound};
 ghost use Rattle.writer.specs.Putting.{Short, Put};
 ghost use Rattle.writer.specs.Spelling.{decimalOf, tens, labelText, opening, closing, lineText, headText};
 ghost use Rattle.writer.specs.Text.{messageLine, markLine, messageLines, afterState, linesFrom, linesText, lineCount, text};
-ghost use Rattle.writer.specs.Written.{written, left};
+ghost use Rattle.writer.specs.Written.{Writes};
 use behaviour::Behaviour;
 use behaviour::Message;
 use behaviour::Messages;
@@ -290,7 +289,7 @@ fn text_length(b: Behaviour) -> usize
 
 // The text of `b` into `out`.
 pub fn write(b: Behaviour, out: &mut [u8]) -> Written
-    ensures { λ r. ⌜ (r ≡ written b (now (out .entry))) × (now (out .exit) ≡ left b (now (out .entry))) ⌝ }
+    ensures { λ r. ⌜ Writes b (now (out .entry)) r (now (out .exit)) ⌝ }
 {
     if !is_sound(b) {
         return Written::Refused(refuse(13, 0));

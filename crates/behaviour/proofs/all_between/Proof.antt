@@ -6,23 +6,24 @@ use borrow.Author.Needs.{needs}
 use Rattle.behaviour.specs.Sound.{between}
 use Rattle.behaviour.specs.Pick.{Seen, pick-start, pick-end, pick-yes, pick-more}
 use Rattle.behaviour.proofs.Loops.{between-pick}
+use Rattle.behaviour.proofs.Lengths.{sized}
 use Rattle.behaviour.proofs.all_between.Statement.{statement}
 use Rattle.behaviour.proofs.all_between.Tie as tie
 
 abbrev Inv-loop : tie.InvT-loop
-Inv-loop n states a i₀ i = Seen (λ m. not (between states m)) (λ _. false) true n a i
+Inv-loop n b states i₀ i = Seen (λ m. not (between (b .states) m)) (λ _. false) true n (b .messages) i
 
 abbrev μ-loop : tie.MeasureT-loop
-μ-loop n states a i₀ i = n - i
+μ-loop n b states i₀ i = n - i
 
 loop-holds : tie.Need-loop-holds Inv-loop μ-loop
-loop-holds c = pick-start _ _ _ _ _ (c .pre) (search needs)
+loop-holds c = pick-start _ _ _ _ _ (c .pre) (sized (c .args .t1) _ (c .good .0) .messages)
 
 mul-m : tie.Need-mul-m Inv-loop μ-loop
 mul-m c = search needs
 
-array-copy-out-m : tie.Need-array-copy-out-m Inv-loop μ-loop
-array-copy-out-m c = search needs
+element-copy-out-m : tie.Need-element-copy-out-m Inv-loop μ-loop
+element-copy-out-m c = search needs
 
 is-between-requires : tie.Need-is-between-requires Inv-loop μ-loop
 is-between-requires c κs = search needs
@@ -53,7 +54,7 @@ all-between-spec =
     μ-loop
     loop-holds
     mul-m
-    array-copy-out-m
+    element-copy-out-m
     is-between-requires
     returns
     add-i

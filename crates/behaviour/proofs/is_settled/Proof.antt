@@ -2,23 +2,23 @@
 use mathlib.Core.Path.{_≡_, refl, sym, _∙_}
 use Prim.Native.Nat.{_-_, _≤_}
 use native.Mathlib.Omega.{arith}
-use lib.ListN.{length, take, drop}
+use lib.ListN.{length, drop}
 use borrow.Author.Tests.{not-true, not-false}
 use borrow.Author.Needs.{needs}
-use Rattle.behaviour.specs.Sound.{settled}
+use Rattle.behaviour.specs.Spoken.{settledBy}
 use Rattle.behaviour.proofs.Loops.{settled-end, settled-no, settled-more}
 use Rattle.behaviour.proofs.is_settled.Statement.{statement}
 use Rattle.behaviour.proofs.is_settled.Tie as tie
 
 abbrev Inv-loop : tie.InvT-loop
-Inv-loop a n marks signs x₀ i₀ x i =
-    (settled 0 marks signs (take n a) ≡ settled x (drop i marks) (drop i signs) (take n a)) × (x ≡ i) × (length marks ≡ 10) × (length signs ≡ 10) × (n ≤ 96)
+Inv-loop marks signs table i₀ i =
+    (settledBy marks signs table ≡ settledBy (drop i marks) (drop i signs) (drop i table)) × (length marks ≡ 10) × (length signs ≡ 10) × (length table ≡ 10)
 
 abbrev μ-loop : tie.MeasureT-loop
-μ-loop a n marks signs x₀ i₀ x i = 10 - i
+μ-loop marks signs table i₀ i = 10 - i
 
 loop-holds : tie.Need-loop-holds Inv-loop μ-loop
-loop-holds c = (refl, refl, search needs, search needs, c .pre)
+loop-holds c = (refl, search needs, search needs, search needs)
 
 array-read-m : tie.Need-array-read-m Inv-loop μ-loop
 array-read-m c = search needs
@@ -26,18 +26,17 @@ array-read-m c = search needs
 array-read-g : tie.Need-array-read-g Inv-loop μ-loop
 array-read-g c = search needs
 
+array-read-t : tie.Need-array-read-t Inv-loop μ-loop
+array-read-t c = search needs
+
 is-state-requires : tie.Need-is-state-requires Inv-loop μ-loop
 is-state-requires c κs = search needs
 
 returns : tie.Need-returns Inv-loop μ-loop
 returns c =
-    let s = c .before .before .before .before in
+    let s = c .before .before .before .before .args in
     let l = c .before .before .before .loop in
-    settled-no (take (s .args .n) (s .args .a)) (s .args .t1) (s .args .t2) (l .x) (l .i) (omega arith) (omega arith)
-    (sym (c .before .is-state .ensures) ∙ not-true _ (c .if1 .taken)) ∙ sym (l .inv .0)
-
-add-x : tie.Need-add-x Inv-loop μ-loop
-add-x c = search needs
+    settled-no (s .t1) (s .t2) (s .t3) (l .i) (omega arith) (omega arith) (omega arith) (sym (c .before .is-state .ensures) ∙ not-true _ (c .if1 .taken)) ∙ sym (l .inv .0)
 
 add-i : tie.Need-add-i Inv-loop μ-loop
 add-i c = search needs
@@ -47,21 +46,19 @@ loop-less c = search needs
 
 loop-again : tie.Need-loop-again Inv-loop μ-loop
 loop-again c =
-    let s = c .before .before .before .before in
+    let s = c .before .before .before .before .args in
     let l = c .before .before .before .loop in (
-      l .inv .0 ∙ settled-more (take (s .args .n) (s .args .a)) (s .args .t1) (s .args .t2) (l .x) (l .i) (omega arith) (omega arith)
-          (sym (c .before .is-state .ensures) ∙ not-false _ (c .if1 .left)),
-      omega arith,
+      l .inv .0 ∙ settled-more (s .t1) (s .t2) (s .t3) (l .i) (omega arith) (omega arith) (omega arith) (sym (c .before .is-state .ensures) ∙ not-false _ (c .if1 .left)),
+      l .inv .1,
       l .inv .2,
       l .inv .3,
-      l .inv .4,
     )
 
 returns-2 : tie.Need-returns-2 Inv-loop μ-loop
 returns-2 c =
-    let s = c .before .before in
+    let s = c .before .before .args in
     let l = c .before .loop in
-    settled-end (take (s .args .n) (s .args .a)) (s .args .t1) (s .args .t2) (l .x) (l .i) (omega arith) ∙ sym (l .inv .0)
+    settled-end (s .t1) (s .t2) (s .t3) (l .i) (omega arith) ∙ sym (l .inv .0)
 
 pub is-settled-spec : {M : Type 1} → statement M
 is-settled-spec =
@@ -72,9 +69,9 @@ is-settled-spec =
     loop-holds
     array-read-m
     array-read-g
+    array-read-t
     is-state-requires
     returns
-    add-x
     add-i
     loop-less
     loop-again

@@ -7,29 +7,30 @@ use borrow.Author.Tests.{not-true, not-false}
 use borrow.Author.Needs.{needs}
 use Rattle.behaviour.specs.Sound.{sorted}
 use Rattle.behaviour.proofs.Loops.{sorted-end, sorted-no, sorted-more}
+use Rattle.behaviour.proofs.Lengths.{sized}
 use Rattle.behaviour.proofs.is_sorted.Statement.{statement}
 use Rattle.behaviour.proofs.is_sorted.Tie as tie
 
 abbrev Inv-loop : tie.InvT-loop
-Inv-loop n a i₀ j₀ i j = (sorted (take n a) ≡ sorted (take (n - i) (drop i a))) × (j ≡ i + 1) × (n ≤ 96) × (length a ≡ 96)
+Inv-loop n b i₀ j₀ i j = (sorted (take n (b .messages)) ≡ sorted (take (n - i) (drop i (b .messages)))) × (j ≡ i + 1) × (n ≤ 96) × (length (b .messages) ≡ 96)
 
 abbrev μ-loop : tie.MeasureT-loop
-μ-loop n a i₀ j₀ i j = n - j
+μ-loop n b i₀ j₀ i j = n - j
 
 loop-holds : tie.Need-loop-holds Inv-loop μ-loop
-loop-holds c = let e : c .args .n - 0 ≡ c .args .n = omega arith in (rw e, refl, c .pre, search needs)
+loop-holds c = let e : c .args .n - 0 ≡ c .args .n = omega arith in (rw e, refl, c .pre, sized (c .args .t1) _ (c .good .0) .messages)
 
 mul-x : tie.Need-mul-x Inv-loop μ-loop
 mul-x c = search needs
 
-array-copy-out-x : tie.Need-array-copy-out-x Inv-loop μ-loop
-array-copy-out-x c = search needs
+element-copy-out-x : tie.Need-element-copy-out-x Inv-loop μ-loop
+element-copy-out-x c = search needs
 
 mul-m : tie.Need-mul-m Inv-loop μ-loop
 mul-m c = search needs
 
-array-copy-out-m : tie.Need-array-copy-out-m Inv-loop μ-loop
-array-copy-out-m c = search needs
+element-copy-out-m : tie.Need-element-copy-out-m Inv-loop μ-loop
+element-copy-out-m c = search needs
 
 comes-before-requires : tie.Need-comes-before-requires Inv-loop μ-loop
 comes-before-requires c κs = search needs
@@ -37,7 +38,7 @@ comes-before-requires c κs = search needs
 returns : tie.Need-returns Inv-loop μ-loop
 returns c =
     let l = c .before .before .before .before .before .loop in
-    sorted-no _ (c .before .before .before .before .before .before .args .t1) (l .i) (l .j) (l .inv .1) (c .before .before .before .before .loop-test .taken) (omega arith)
+    sorted-no _ (c .before .before .before .before .before .before .args .t1 .messages) (l .i) (l .j) (l .inv .1) (c .before .before .before .before .loop-test .taken) (omega arith)
     (sym (c .before .comes-before .ensures) ∙ not-true _ (c .if1 .taken)) ∙ sym (l .inv .0)
 
 add-i : tie.Need-add-i Inv-loop μ-loop
@@ -52,7 +53,7 @@ loop-less c = search needs
 loop-again : tie.Need-loop-again Inv-loop μ-loop
 loop-again c =
     let l = c .before .before .before .before .before .loop in (
-      l .inv .0 ∙ sorted-more _ (c .before .before .before .before .before .before .args .t1) (l .i) (l .j) (l .inv .1) (c .before .before .before .before .loop-test .taken) (omega arith)
+      l .inv .0 ∙ sorted-more _ (c .before .before .before .before .before .before .args .t1 .messages) (l .i) (l .j) (l .inv .1) (c .before .before .before .before .loop-test .taken) (omega arith)
           (sym (c .before .comes-before .ensures) ∙ not-false _ (c .if1 .left)),
       omega arith,
       l .inv .2,
@@ -62,7 +63,7 @@ loop-again c =
 returns-2 : tie.Need-returns-2 Inv-loop μ-loop
 returns-2 c =
     let l = c .before .loop in
-    sorted-end (c .before .before .args .n) (c .before .before .args .t1) (l .i) (omega arith) ∙ sym (l .inv .0)
+    sorted-end (c .before .before .args .n) (c .before .before .args .t1 .messages) (l .i) (omega arith) ∙ sym (l .inv .0)
 
 pub is-sorted-spec : {M : Type 1} → statement M
 is-sorted-spec =
@@ -72,9 +73,9 @@ is-sorted-spec =
     μ-loop
     loop-holds
     mul-x
-    array-copy-out-x
+    element-copy-out-x
     mul-m
-    array-copy-out-m
+    element-copy-out-m
     comes-before-requires
     returns
     add-i

@@ -1,12 +1,14 @@
 -- `behaviour::is_sound` meets its contract.
-use mathlib.Core.Path.{_≡_, refl, sym, _∙_}
+use mathlib.Core.Path.{_≡_, refl, sym, ap, _∙_}
 use Prim.Native.Nat.{_+_, _<_, _≤_}
 use native.Mathlib.Omega.{arith}
-use lib.ListN.{length}
+use lib.ListN.{length, take}
 use borrow.Author.Tests.{not-true, not-false}
 use borrow.Author.Needs.{needs}
 use Rattle.behaviour.specs.Sound.{total}
 use Rattle.behaviour.specs.SoundLaws.{total-most}
+use Rattle.behaviour.specs.Spoken.{settledBy, settled-spoken}
+use Rattle.behaviour.proofs.Lengths.{sized}
 use Rattle.behaviour.proofs.Sounding.{none-stateless, none-wider, none-longer, in-range}
 use Rattle.behaviour.proofs.is_sound.Statement.{statement}
 use Rattle.behaviour.proofs.is_sound.Tie as tie
@@ -41,7 +43,7 @@ all-between-requires c κs = omega arith
 
 returns-4 : tie.Need-returns-4
 returns-4 c =
-    let s = c .before .before .before in
+    let s = c .before .before in
     rw (
       in-range (s .before .before .before .before .before .before .before .args .b) (omega arith) (omega arith) (s .before .before .wide2 .result) (s .before .before .wide2 .ensures) (omega arith),
       ← c .before .all-between .ensures,
@@ -53,7 +55,7 @@ is-sorted-requires c κs = omega arith
 
 returns-5 : tie.Need-returns-5
 returns-5 c =
-    let s = c .before .before .before .before .before in
+    let s = c .before .before .before .before in
     rw (
       in-range (s .before .before .before .before .before .before .before .args .b) (omega arith) (omega arith) (s .before .before .wide2 .result) (s .before .before .wide2 .ensures) (omega arith),
       ← c .before .before .before .all-between .ensures,
@@ -67,7 +69,7 @@ all-blank-requires c κs = search needs
 
 returns-6 : tie.Need-returns-6
 returns-6 c =
-    let s = c .before .before .before .before .before .before .before in
+    let s = c .before .before .before .before .before .before in
     rw (
       in-range (s .before .before .before .before .before .before .before .args .b) (omega arith) (omega arith) (s .before .before .wide2 .result) (s .before .before .wide2 .ensures) (omega arith),
       ← c .before .before .before .before .before .all-between .ensures,
@@ -78,22 +80,28 @@ returns-6 c =
       not-true (c .before .all-blank .result) (c .if6 .taken),
     )
 
+speaking-requires : tie.Need-speaking-requires
+speaking-requires c κs = omega arith
+
 is-settled-requires : tie.Need-is-settled-requires
-is-settled-requires c κs = omega arith
+is-settled-requires c κs = search needs
 
 returns-7 : tie.Need-returns-7
 returns-7 c =
     let s = c .before .before .before .before .before .before .before .before .before in
+    let b = s .before .before .before .before .before .before .before .args .b in
     rw (
-      in-range (s .before .before .before .before .before .before .before .args .b) (omega arith) (omega arith) (s .before .before .wide2 .result) (s .before .before .wide2 .ensures) (omega arith),
-      ← c .before .before .before .before .before .before .before .all-between .ensures,
-      not-false (c .before .before .before .before .before .before .before .all-between .result) (c .before .before .before .before .before .before .if4 .left),
-      ← c .before .before .before .before .before .is-sorted .ensures,
-      not-false (c .before .before .before .before .before .is-sorted .result) (c .before .before .before .before .if5 .left),
-      ← c .before .before .before .all-blank .ensures,
-      not-false (c .before .before .before .all-blank .result) (c .before .before .if6 .left),
+      in-range b (omega arith) (omega arith) (s .before .before .wide2 .result) (s .before .before .wide2 .ensures) (omega arith),
+      ← c .before .before .before .before .before .before .before .before .all-between .ensures,
+      not-false (c .before .before .before .before .before .before .before .before .all-between .result) (c .before .before .before .before .before .before .before .if4 .left),
+      ← c .before .before .before .before .before .before .is-sorted .ensures,
+      not-false (c .before .before .before .before .before .before .is-sorted .result) (c .before .before .before .before .before .if5 .left),
+      ← c .before .before .before .before .all-blank .ensures,
+      not-false (c .before .before .before .before .all-blank .result) (c .before .before .before .if6 .left),
     )
-    (c .is-settled .ensures)
+    (c .is-settled .ensures
+    ∙ ap (settledBy (b .marks) (b .signs)) (c .before .before .speaking .ensures)
+    ∙ settled-spoken (take (s .before .before .wide2 .result) (b .messages)) (b .marks) (b .signs) (sized b _ (s .before .before .before .before .before .before .before .good .0) .marks))
 
 pub is-sound-spec : {M : Type 1} → statement M
 is-sound-spec =
@@ -112,5 +120,6 @@ is-sound-spec =
     returns-5
     all-blank-requires
     returns-6
+    speaking-requires
     is-settled-requires
     returns-7)

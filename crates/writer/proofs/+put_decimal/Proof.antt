@@ -1,6 +1,6 @@
 -- `writer::put_decimal` meets its contract: the digits before the last, with one fewer to come, and the last.
 use mathlib.Core.Path.{_∙_}
-use Prim.Native.Nat.{_+_, _-_, _/_, _%_}
+use Prim.Native.Nat.{_+_, _-_}
 use native.Mathlib.Omega.{arith}
 use Rattle.writer.proofs.Puts.{put-length}
 use Rattle.writer.proofs.Digits.{tens-more, small-short, small-put, large-first, large-next, large-put}

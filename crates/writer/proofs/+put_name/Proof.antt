@@ -1,6 +1,6 @@
 -- `writer::put_name` meets its contract: the bytes before the last, and the last unless it is zero.
 use mathlib.Core.Path.{_≡_, _∙_}
-use Prim.Native.Nat.{_+_, _-_, _/_, _%_}
+use Prim.Native.Nat.{_+_, _-_}
 use native.Mathlib.Omega.{arith}
 use Rattle.writer.proofs.Puts.{put-nothing, put-as, put-length}
 use Rattle.writer.proofs.Digits.{name-empty, name-first, name-skipped, name-next, name-put}

@@ -1,7 +1,6 @@
 -- `writer::put_messages` meets its contract.
 use mathlib.Core.Path.{sym, _∙_}
 use Prim.Native.Nat.{_-_}
-use native.Mathlib.Omega.{arith}
 use borrow.Author.Needs.{needs}
 use Rattle.writer.proofs.Telling.{Telling, tell-start, tell-short, tell-more, tell-stop, tell-end}
 use Rattle.writer.proofs.put_messages.Statement.{statement}
