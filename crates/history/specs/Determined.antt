@@ -1,9 +1,9 @@
 -- Demand 3 settles everything that is seen: two sessions that meet it grant the same calls and stand at the same states.
-use mathlib.Core.Path.{_≡_, refl, sym, _∙_, ap}
+use mathlib.Core.Path.{_≡_, refl, sym, _∙_}
 use mathlib.Core.Bool.{Bool, true, false}
 use mathlib.Core.List.{List}
 use mathlib.Core.Option.{Option, none, some}
-use mathlib.Core.Logic.{_⊎_, inl, inr}
+use mathlib.Core.Logic.{inl, inr}
 use Prim.Native.Nat.{ℕ}
 use Rattle.history.specs.Calls.{Call, message, rollback, Calls, opening, _then_, Made}
 use Rattle.history.specs.Point.{Left, Back, Since, Point}

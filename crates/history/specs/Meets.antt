@@ -1,15 +1,15 @@
 -- What moves by the steps alone and never comes to a bad stand meets demand 3.
-use mathlib.Core.Path.{_≡_, refl, sym, _∙_, ap}
+use mathlib.Core.Path.{_≡_, refl, ap}
 use mathlib.Core.Bool.{Bool, true, false}
 use mathlib.Core.List.{List}
 use mathlib.Core.Option.{Option, none, some}
-use mathlib.Core.Logic.{_⊎_, inl, inr, _↔_}
+use mathlib.Core.Logic.{_⊎_}
 use Prim.Native.Nat.{ℕ}
 use native.Mathlib.Omega.{arith}
 use Rattle.names.specs.If.{if}
 use Rattle.history.specs.Calls.{Call, message, rollback, Calls, opening, _then_}
 use Rattle.history.specs.Side.{Side, Possible}
-use Rattle.history.specs.Point.{Point, Back, point-opening, point-message, point-refused, point-back, point-one}
+use Rattle.history.specs.Point.{Back, point-opening, point-message, point-refused, point-back, point-one}
 use Rattle.history.specs.Demand.{Seen, ClientPoint, ServerPoint, Sendable, Demand}
 use Rattle.history.specs.Played.{Standing, has, orElse, session, seen}
 

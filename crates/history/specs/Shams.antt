@@ -1,12 +1,11 @@
 -- Sham sessions that demand 3 shuts out, whatever they say: each does what one of 01's "Errors that look right" or its list of shams tells.
-use mathlib.Core.Path.{_≡_, refl, sym, _∙_, ap}
+use mathlib.Core.Path.{_≡_, sym, _∙_, ap}
 use mathlib.Core.Bool.{Bool, true, false}
 use mathlib.Core.List.{List}
 use mathlib.Core.Option.{Option, none, some}
 use mathlib.Core.Logic.{inl, inr}
 use Prim.Native.Nat.{ℕ}
 use native.Mathlib.Omega.{arith}
-use Rattle.names.specs.If.{if}
 use Rattle.history.specs.Calls.{Call, message, rollback, Calls, opening, _then_}
 use Rattle.history.specs.Side.{Side, Can, Possible}
 use Rattle.history.specs.Point.{Point, point-opening, point-message, point-one}

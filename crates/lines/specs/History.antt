@@ -1,7 +1,6 @@
 -- Calls on a lent record give the same history as the calls by value, and so meet demand 3.
 use mathlib.Core.Path.{_≡_, refl, sym, _∙_, ap, subst}
 use mathlib.Core.Bool.{Bool, true, false}
-use mathlib.Core.Option.{Option, none, some}
 use Rattle.behaviour.specs.declared.Behaviour.{Behaviour}
 use Rattle.stands.specs.declared.ClientState.{ClientState}
 use Rattle.stands.specs.declared.ServerState.{ServerState}

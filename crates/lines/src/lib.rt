@@ -5,7 +5,7 @@ use session::Answer;
 use session::Session;
 ghost use mathlib.Core.Path.{_≡_};
 ghost use Rattle.session.specs.Answers.{messaged, rolledBack};
-ghost use Rattle.lines.specs.Lent.{keptOf};
+ghost use Rattle.lines.specs.Lent.{keptOf, OpensInto};
 
 // What a call on a lent record says.
 pub enum Outcome {
@@ -35,6 +35,12 @@ fn held(line: Session, a: Answer) -> Kept
     }
 }
 
+fn open_kept(line: Session, client: Behaviour, server: Behaviour) -> Kept
+    ensures { λ r. ⌜ OpensInto client server line r ⌝ }
+{
+    held(line, session::open(client, server))
+}
+
 fn message_kept(line: Session, client: Behaviour, server: Behaviour, name: &[u8]) -> Kept
     ensures { λ r. ⌜ r ≡ keptOf line (messaged client server line (now (name .entry))) ⌝ }
 {
@@ -45,6 +51,15 @@ fn rollback_kept(line: Session, client: Behaviour, server: Behaviour) -> Kept
     ensures { λ r. ⌜ r ≡ keptOf line (rolledBack client server line) ⌝ }
 {
     held(line, line.rollback(client, server))
+}
+
+// The line stands at the start, if the pair may be joined.
+pub fn open(line: &mut Session, client: Behaviour, server: Behaviour) -> Outcome
+    ensures { λ r. ⌜ OpensInto client server (now (line .entry)) (record { session = now (line .exit); outcome = r }) ⌝ }
+{
+    let k = open_kept(*line, client, server);
+    *line = k.session;
+    k.outcome
 }
 
 // Both sides of the line move by the message of this name.

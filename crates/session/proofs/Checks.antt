@@ -1,5 +1,5 @@
 -- Laws of the answers, one for each way through the code.
-use mathlib.Core.Path.{_≡_, refl, sym, _∙_, ap}
+use mathlib.Core.Path.{_≡_, refl}
 use mathlib.Core.List.{List}
 use mathlib.Core.Option.{Option, none, some}
 use Prim.Native.Nat.{ℕ}
@@ -7,7 +7,6 @@ use borrow.Author.Tests.{eq-eqb, ne-eqb}
 use Rattle.names.specs.Names.{nameNumber}
 use Rattle.behaviour.specs.declared.Behaviour.{Behaviour}
 use Rattle.stands.specs.declared.Stand.{Stand}
-use Rattle.stands.specs.Stands.{said}
 use Rattle.stands.specs.Stands as rules
 use Rattle.steps.specs.Next.{nextOf}
 use Rattle.session.specs.declared.Session.{Session}

@@ -1,5 +1,5 @@
 -- From what the verdict says of a pair to what opening answers.
-use mathlib.Core.Path.{_≡_, refl, sym, _∙_, ap, subst}
+use mathlib.Core.Path.{_≡_, refl}
 use mathlib.Core.List.{List}
 use mathlib.Core.Logic.{_⊎_, inl, inr}
 use Prim.Native.Nat.{ℕ}
@@ -8,7 +8,7 @@ use Rattle.behaviour.specs.declared.Refusal.{Refusal}
 use Rattle.behaviour.specs.Refusals.{refusal}
 use Rattle.verdict.specs.declared.Verdict.{Verdict}
 use Rattle.verdict.specs.declared.Verdict.the-variants as verdict
-use Rattle.verdict.specs.Answer.{Says, SaysRefused, Unsound, TooLong}
+use Rattle.verdict.specs.Answer.{Says, Unsound, TooLong}
 use Rattle.session.specs.declared.Answer.{Answer}
 use Rattle.session.specs.declared.Answer.the-variants as answer
 use Rattle.session.specs.Opening.{opened, notOpened, Opens}

@@ -23,8 +23,9 @@ use Rattle.history.specs.Determined.{determined}
 use Rattle.history.specs.Played.{has, session}
 use Rattle.history.specs.Meets.{Steps, told, meets}
 use Rattle.session.specs.declared.Session.{Session}
+use Rattle.session.specs.declared.Answer.the-variants as answer
 use Rattle.session.specs.Answers.{fault, stepped, named, messaged, rolledBack}
-use Rattle.session.specs.Opening.{opened, Begins}
+use Rattle.session.specs.Opening.{opened, Begins, Opens}
 use Rattle.session.specs.Sides.{clientSide, serverSide, clientPoint, serverPoint}
 use Rattle.session.specs.Watched.{answered, handedBack, next, at, watched}
 use Rattle.session.specs.Steps.{speaks, moves, going, rolls, goes-back}
@@ -151,3 +152,8 @@ module _ (c s : Behaviour) (z : Session) (b : Begins c s z) where
   pub only-one : (w : Seen ClientState ServerState) → Demand named (clientSide c) (serverSide s) w → (h : Calls)
       → (w .client h ≡ watched c s z .client h) × (w .server h ≡ watched c s z .server h) × ((k : Call) → w .granted h k ≡ watched c s z .granted h k)
   only-one w d = determined named (clientSide c) (serverSide s) w (watched c s z) d demand3
+
+-- so does every session that an answer to an opening holds
+pub opened-meets : (c s : Behaviour) (z : Session) → Opens c s (answer.Next z) → Demand named (clientSide c) (serverSide s) (watched c s z)
+unfolding Opens
+opened-meets c s z o = demand3 c s z o

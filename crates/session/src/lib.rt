@@ -1,10 +1,17 @@
 // Sessions by value of pairs that may be joined. A call takes a session and the pair, and hands the next session back.
 use behaviour::Behaviour;
 use behaviour::Refusal;
+use stands::ClientPoint;
+use stands::ClientState;
+use stands::ServerPoint;
+use stands::ServerState;
 use stands::Stand;
 use steps::Next;
+use verdict::Verdict;
 ghost use mathlib.Core.Path.{_≡_};
+ghost use Rattle.session.specs.declared.Answer.the-variants as answer;
 ghost use Rattle.session.specs.Answers.{refused, fault, byStep, messaged, rolledBack};
+ghost use Rattle.session.specs.Opening.{opened, notOpened, Opens};
 
 // Where both sides stand, with their return points: four small numbers.
 pub struct Session {
@@ -46,6 +53,43 @@ fn answer_of(step: Next, number: u8) -> Answer
     match step {
         Next::Off => refuse(number),
         Next::Stand(p) => Answer::Next(Session { stand: p }),
+    }
+}
+
+// Both at state 0, both return points none.
+fn begin() -> Answer
+    ensures { λ r. ⌜ r ≡ answer.Next opened ⌝ }
+{
+    Answer::Next(Session {
+        stand: Stand {
+            client: ClientState(0),
+            clientpoint: ClientPoint::Nowhere,
+            server: ServerState(0),
+            serverpoint: ServerPoint::Nowhere,
+        },
+    })
+}
+
+// 14 where the run did not fit, else the verdict's own refusal.
+fn refused_open(f: Refusal) -> Answer
+    ensures { λ r. ⌜ r ≡ notOpened f ⌝ }
+{
+    let k = f.number;
+    if k == 12 {
+        return refuse(14);
+    }
+    Answer::Refused(f)
+}
+
+// The start, if the pair may be joined.
+pub fn open(client: Behaviour, server: Behaviour) -> Answer
+    ensures { λ r. ⌜ Opens client server r ⌝ }
+{
+    let mut run: [u8; 1] = [0; 1];
+    match verdict::judge(client, server, &mut run) {
+        Verdict::Compliant(_) => begin(),
+        Verdict::Stuck(_, _) => refuse(14),
+        Verdict::Refused(f) => refused_open(f),
     }
 }
 

@@ -1,1 +1,3 @@
 pub mod Answer
+pub mod Found
+pub mod OneAnswer

@@ -1,3 +1,4 @@
+-- `lines::held` meets its contract, case by case.
 use mathlib.Core.Path.{sym, ap}
 use borrow.Author.Needs.{needs}
 use Rattle.lines.specs.Lent.{keptOf}

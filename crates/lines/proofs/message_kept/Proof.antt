@@ -1,3 +1,4 @@
+-- `lines::message_kept` meets its contract: what `held` makes of what `Session::message` answers.
 use mathlib.Core.Path.{ap, _∙_}
 use borrow.Author.Needs.{needs}
 use Rattle.lines.specs.Lent.{keptOf}

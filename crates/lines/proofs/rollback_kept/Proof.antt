@@ -1,3 +1,4 @@
+-- `lines::rollback_kept` meets its contract: what `held` makes of what `Session::rollback` answers.
 use mathlib.Core.Path.{ap, _∙_}
 use borrow.Author.Needs.{needs}
 use Rattle.lines.specs.Lent.{keptOf}

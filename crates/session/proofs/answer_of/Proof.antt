@@ -1,3 +1,4 @@
+-- `session::answer_of` meets its contract, case by case.
 use borrow.Author.Needs.{needs}
 use Rattle.session.proofs.answer_of.Statement.{statement}
 use Rattle.session.proofs.answer_of.Tie as tie

@@ -1,3 +1,4 @@
+-- `session::fault_in` meets its contract: each way out is one case of `fault`, in its order.
 use mathlib.Core.Path.{_∙_, sym}
 use borrow.Author.Needs.{needs}
 use borrow.Author.Tests.{not-true, not-false}

@@ -1,3 +1,4 @@
+-- `Session::message` meets its contract: a fault, no name, or what the step answers (Checks).
 use borrow.Author.Needs.{needs}
 use Rattle.session.specs.Answers.{messaged}
 use Rattle.session.proofs.Checks.{faulty, nameless, spoken}

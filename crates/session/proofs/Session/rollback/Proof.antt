@@ -1,3 +1,4 @@
+-- `Session::rollback` meets its contract: a fault, or what the step answers (Checks).
 use borrow.Author.Needs.{needs}
 use Rattle.session.specs.Answers.{rolledBack}
 use Rattle.session.proofs.Checks.{faulty, returned}
