@@ -6,7 +6,7 @@ use verdict::Verdict;
 use writer::Written;
 ghost use mathlib.Core.Path.{_≡_};
 ghost use Rattle.host.specs.Numbers.{refusedNumber, writtenNumber, verdictNumber, sessionNumber, sessionOf};
-ghost use Rattle.host.specs.Calls.{Reads, Writes, Messages, RollsBack};
+ghost use Rattle.host.specs.Calls.{Reads, Writes, Judges, Opens, Messages, RollsBack};
 
 fn wide_byte(x: u8) -> u64
     ensures { λ r. ⌜ r ≡ x ⌝ }
@@ -91,6 +91,20 @@ pub extern "C" fn tyttmose_write(value: &[u8], text: &mut [u8]) -> u64
     ensures { λ r. ⌜ Writes (now (value .entry)) (now (text .entry)) r (now (text .exit)) ⌝ }
 {
     written_number(writer::write(packing::unpack(value), text))
+}
+
+#[no_mangle]
+pub extern "C" fn tyttmose_verdict(client: &[u8], server: &[u8], run: &mut [u8]) -> u64
+    ensures { λ r. ⌜ Judges (now (client .entry)) (now (server .entry)) (now (run .entry)) r (now (run .exit)) ⌝ }
+{
+    verdict_number(verdict::judge(packing::unpack(client), packing::unpack(server), run))
+}
+
+#[no_mangle]
+pub extern "C" fn tyttmose_open(client: &[u8], server: &[u8]) -> u64
+    ensures { λ r. ⌜ Opens (now (client .entry)) (now (server .entry)) r ⌝ }
+{
+    session_number(session::open(packing::unpack(client), packing::unpack(server)))
 }
 
 #[no_mangle]
