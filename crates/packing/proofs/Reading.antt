@@ -2,7 +2,7 @@
 use mathlib.Core.Path.{_≡_, refl, sym, ap, _∙_}
 use mathlib.Core.Bool.{Bool, true, false}
 use mathlib.Core.List.{List, [], _∷_, _++_, append-assoc, append-nil}
-use Prim.Native.Nat.{ℕ, zero, suc, _+_, _*_, _-_, _/_, _^_, _<_, _≤_}
+use Prim.Native.Nat.{ℕ, zero, suc, _+_, _*_, _-_, _/_, _%_, _^_, _<_, _≤_}
 use native.Mathlib.Numerals.{add-one, sub-one}
 use native.Mathlib.Omega.{arith}
 use borrow.Author.Tests.{eqb-true, eqb-false}
@@ -76,11 +76,11 @@ pub record Filled (s : List ℕ) (a : List Message) (i p : ℕ) : Type 0 where
   pub of-other : (length s ≡ valueBytes → ⊥) → a ≡ replicate mostLines unused
 
 module _ (s : List ℕ) (n i : ℕ) (e : n ≡ whole s mostLines 0) where
-  pub lines-some : i < n → (length s ≡ valueBytes) × (i < mostLines)
+  pub lines-some : i < n → (length s ≡ valueBytes) × (n ≡ mostLines)
   lines-some h = go (eqb (length s) valueBytes) refl e
     where
-      go : (t : Bool) → eqb (length s) valueBytes ≡ t → n ≡ if t mostLines 0 → (length s ≡ valueBytes) × (i < mostLines)
-      go true q f = (eqb-true (length s) valueBytes q, omega arith)
+      go : (t : Bool) → eqb (length s) valueBytes ≡ t → n ≡ if t mostLines 0 → (length s ≡ valueBytes) × (n ≡ mostLines)
+      go true q f = (eqb-true (length s) valueBytes q, f)
       go false q f = absurd (omega arith)
 
   pub filled-more : (a : List Message) (p : ℕ) → Filled s a i p → i < n → Filled s (set a i (unpackedMessage (drop p s))) (i + 1) (p + messageBytes)
@@ -89,7 +89,7 @@ module _ (s : List ℕ) (n i : ℕ) (e : n ≡ whole s mostLines 0) where
       record {
         long = length-set a i (unpackedMessage (drop p s)) ∙ f .long;
         place = omega (arith, f .place);
-        of-whole = λ _. messages-more a s i p _ (w .1) (f .long) (f .of-whole (w .0));
+        of-whole = λ _. messages-more a s i p _ (omega (arith, w .1)) (f .long) (f .of-whole (w .0));
         of-other = λ no. absurd (no (w .0));
       }
 
@@ -100,6 +100,17 @@ module _ (s : List ℕ) (n i : ℕ) (e : n ≡ whole s mostLines 0) where
           → a ≡ if t (unpackedMessages mostLines (drop (2 + 2 * mostStates) s)) (replicate mostLines unused)
       go true q g = messages-done a s i p _ (omega arith) (f .long) (f .of-whole (eqb-true (length s) valueBytes q))
       go false q g = f .of-other (eqb-false (length s) valueBytes q)
+
+-- two messages a turn
+pub filled-two : (s : List ℕ) (n i : ℕ) → n ≡ whole s mostLines 0 → (a : List Message) (p : ℕ) → Filled s a i p → i < n → i % 2 ≡ 0
+    → Filled s (set (set a i (unpackedMessage (drop p s))) (i + 1) (unpackedMessage (drop (p + messageBytes) s))) (i + 2) (p + 2 * messageBytes)
+filled-two s n i e a p f h z =
+    let w = lines-some s n i e h in
+    let one = filled-more s n i e a p f h in
+    let two = filled-more s n (i + 1) e (set a i (unpackedMessage (drop p s))) (p + messageBytes) one (omega (arith, w .1)) in
+    let j : i + 1 + 1 ≡ i + 2 = omega arith in
+    let q : p + messageBytes + messageBytes ≡ p + 2 * messageBytes = omega arith in
+    rw (j, q) at two
 
 -- the value from its parts
 pub parts-value : (s : List ℕ) → record {

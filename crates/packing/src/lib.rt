@@ -131,7 +131,8 @@ fn lines_in(s: &[u8]) -> usize
     0
 }
 
-// One array, filled in one place: each copy of it would take stack.
+// One array, filled in one place: each copy of it would take stack. Two messages a turn: a shorter loop makes `unpack` so small
+// that LLVM takes it into its callers, and with it the array into their stack.
 fn messages_in(s: &[u8]) -> Messages
     ensures { λ r. ⌜ r ≡ whole (now (s .entry)) (unpackedMessages mostLines (drop (2 + 2 * mostStates) (now (s .entry)))) (replicate mostLines unused) ⌝ }
 {
@@ -145,8 +146,9 @@ fn messages_in(s: &[u8]) -> Messages
     let mut p = 2 + 2 * STATES;
     while i < n {
         a[i] = message_at(s, p);
-        p += MESSAGE_BYTES;
-        i += 1;
+        a[i + 1] = message_at(s, p + MESSAGE_BYTES);
+        p += 2 * MESSAGE_BYTES;
+        i += 2;
     }
     a
 }

@@ -16,7 +16,7 @@ session-number-requires : tie.Need-session-number-requires
 session-number-requires c κs = search needs
 
 returns : tie.Need-returns
-returns c = 
+returns c =
     record {
       answer = c .before .open .result;
       opens = rw (← c .before .before .before .unpack .ensures, ← c .before .before .unpack2 .ensures) (c .before .open .ensures);

@@ -19,7 +19,7 @@ same-length : tie.Need-same-length
 same-length c = search needs
 
 returns : tie.Need-returns
-returns c = 
+returns c =
     record {
       verdict = c .before .before .before .judge .result;
       says = rw (← c .before .before .before .before .before .before .unpack .ensures, ← c .before .before .before .before .before .unpack2 .ensures) (c .before .before .before .judge .ensures);

@@ -23,7 +23,7 @@ messages-in-requires : tie.Need-messages-in-requires
 messages-in-requires c κs = search needs
 
 returns : tie.Need-returns
-returns c = 
+returns c =
     rw (
       c .before .before .before .before .byte-in .ensures,
       c .before .before .before .byte-in2 .ensures,
