@@ -14,9 +14,11 @@ use Rattle.verdict.specs.Answer.{Says}
 use Rattle.session.specs.declared.Answer.{Answer}
 use Rattle.session.specs.Answers.{messaged, rolledBack}
 use Rattle.session.specs.Opening as session
+use Rattle.report.specs.declared.Reported.{Reported}
+use Rattle.report.specs.Reports.{Reports}
 use Rattle.packing.specs.Value.{valueBytes, unpacked}
 use Rattle.packing.specs.Value as packing
-use Rattle.host.specs.Numbers.{refusedNumber, writtenNumber, verdictNumber, sessionOf, sessionNumber}
+use Rattle.host.specs.Numbers.{refusedNumber, writtenNumber, verdictNumber, reportedNumber, sessionOf, sessionNumber}
 
 -- 1 to 11 of the file, then 12; or the length of a value
 abbrev pub readNumber : Read → List ℕ → ℕ
@@ -49,3 +51,9 @@ Messages c s n name r = r ≡ sessionNumber (messaged (unpacked c) (unpacked s) 
 
 abbrev pub RollsBack : List ℕ → List ℕ → ℕ → ℕ → Type 0
 RollsBack c s n r = r ≡ sessionNumber (rolledBack (unpacked c) (unpacked s) (sessionOf n))
+
+-- of the two files themselves, not of their values
+pub record Texts (f g out : List ℕ) (r : ℕ) (left : List ℕ) : Type 0 where
+  pub reported : Reported
+  pub reports : Reports f g out reported left
+  pub number : r ≡ reportedNumber reported

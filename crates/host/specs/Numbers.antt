@@ -5,6 +5,8 @@ use Rattle.verdict.specs.declared.Verdict.{Verdict}
 use Rattle.verdict.specs.declared.Verdict.the-variants as verdict
 use Rattle.writer.specs.declared.Written.{Written}
 use Rattle.writer.specs.declared.Written.the-variants as written
+use Rattle.report.specs.declared.Reported.{Reported}
+use Rattle.report.specs.declared.Reported.the-variants as reported
 use Rattle.session.specs.declared.Session.{Session}
 use Rattle.session.specs.declared.Answer.{Answer}
 use Rattle.session.specs.declared.Answer.the-variants as answer
@@ -23,6 +25,11 @@ abbrev pub verdictNumber : Verdict → ℕ
 verdictNumber (verdict.Compliant k) = k
 verdictNumber (verdict.Stuck e n) = e * 65536 + n
 verdictNumber (verdict.Refused f) = refusedNumber f
+
+-- granted: the text's length
+abbrev pub reportedNumber : Reported → ℕ
+reportedNumber (reported.Bytes n) = n
+reportedNumber (reported.Refused f) = refusedNumber f
 
 -- a session is the number of its stand
 abbrev pub sessionOf : ℕ → Session

@@ -3,9 +3,10 @@ use mathlib.Core.Path.{_≡_, sym, ap, _∙_}
 use mathlib.Core.List.{List}
 use Prim.Native.Nat.{ℕ}
 use Rattle.session.specs.OneAnswer.{opens-one}
+use Rattle.report.specs.OneOutput.{one-report}
 use Rattle.packing.specs.Value.{unpacked}
-use Rattle.host.specs.Numbers.{verdictNumber, sessionNumber}
-use Rattle.host.specs.Calls.{Reads, Writes, Judges, Opens, Messages, RollsBack}
+use Rattle.host.specs.Numbers.{verdictNumber, reportedNumber, sessionNumber}
+use Rattle.host.specs.Calls.{Reads, Writes, Judges, Opens, Messages, RollsBack, Texts}
 use Rattle.host.specs.OneVerdict.{one-verdict}
 
 pub one-read : (text out : List ℕ) (r q : ℕ) (d e : List ℕ) → Reads text out r d → Reads text out q e → (r ≡ q) × (d ≡ e)
@@ -28,3 +29,8 @@ one-message c s n name r q a b = a ∙ sym b
 
 pub one-rollback : (c s : List ℕ) (n r q : ℕ) → RollsBack c s n r → RollsBack c s n q → r ≡ q
 one-rollback c s n r q a b = a ∙ sym b
+
+pub one-text : (f g out : List ℕ) (r q : ℕ) (d e : List ℕ) → Texts f g out r d → Texts f g out q e → (r ≡ q) × (d ≡ e)
+one-text f g out r q d e a b =
+    let h = one-report f g out (a .reported) (b .reported) d e (a .reports) (b .reports) in
+    (a .number ∙ ap reportedNumber (h .0) ∙ sym (b .number), h .1)

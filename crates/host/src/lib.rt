@@ -1,12 +1,13 @@
 // The functions that C calls: numbers and byte slices only. docs/HOST.md has every number; include/tyttmose.h declares them.
 use behaviour::Refusal;
+use report::Reported;
 use session::Answer;
 use session::Session;
 use verdict::Verdict;
 use writer::Written;
 ghost use mathlib.Core.Path.{_≡_};
-ghost use Rattle.host.specs.Numbers.{refusedNumber, writtenNumber, verdictNumber, sessionNumber, sessionOf};
-ghost use Rattle.host.specs.Calls.{Reads, Writes, Judges, Opens, Messages, RollsBack};
+ghost use Rattle.host.specs.Numbers.{refusedNumber, writtenNumber, verdictNumber, reportedNumber, sessionNumber, sessionOf};
+ghost use Rattle.host.specs.Calls.{Reads, Writes, Judges, Opens, Messages, RollsBack, Texts};
 
 fn wide_byte(x: u8) -> u64
     ensures { λ r. ⌜ r ≡ x ⌝ }
@@ -51,6 +52,15 @@ fn verdict_number(v: Verdict) -> u64
         Verdict::Compliant(k) => wide_place(k),
         Verdict::Stuck(e, n) => wide_byte(e) * 65536 + wide_place(n),
         Verdict::Refused(f) => refused(f),
+    }
+}
+
+fn reported_number(a: Reported) -> u64
+    ensures { λ r. ⌜ r ≡ reportedNumber a ⌝ }
+{
+    match a {
+        Reported::Bytes(n) => wide_number(n),
+        Reported::Refused(f) => refused(f),
     }
 }
 
@@ -121,4 +131,11 @@ pub extern "C" fn tyttmose_rollback(client: &[u8], server: &[u8], session: u32) 
 {
     let z = session_of(session);
     session_number(z.rollback(packing::unpack(client), packing::unpack(server)))
+}
+
+#[no_mangle]
+pub extern "C" fn tyttmose_text(client: &[u8], server: &[u8], text: &mut [u8]) -> u64
+    ensures { λ r. ⌜ Texts (now (client .entry)) (now (server .entry)) (now (text .entry)) r (now (text .exit)) ⌝ }
+{
+    reported_number(report::report(client, server, text))
 }

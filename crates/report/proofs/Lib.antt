@@ -6,3 +6,6 @@ pub mod Going
 pub mod Sizes
 pub mod Telling
 pub mod Listing
+pub mod Accepted
+pub mod Judging
+pub mod Reporting

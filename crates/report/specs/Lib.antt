@@ -5,3 +5,5 @@ pub mod OneOutput
 pub mod Examples
 pub mod Followed
 pub mod Listed
+pub mod Judges
+pub mod Within

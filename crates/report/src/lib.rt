@@ -4,6 +4,7 @@ use behaviour::Messages;
 use behaviour::Refusal;
 use tokens::Label;
 use tokens::Line;
+use verdict::Verdict;
 ghost use mathlib.Core.Path.{_≡_};
 ghost use mathlib.Core.List.{_∷_, []};
 ghost use Prim.Native.Nat.{_≤_, _<_, _+_};
@@ -19,7 +20,8 @@ ghost use Rattle.report.specs.RunText.{rbk, stepLine};
 ghost use Rattle.report.specs.Output.{wordLine, compliantText, refusedText};
 ghost use Rattle.report.specs.Followed.{nextState, nextHome, seenLine, followed, stuckText};
 ghost use Rattle.report.specs.Listed.{Room, SideListed, Listed};
-ghost use Rattle.report.specs.Reports.{Tells};
+ghost use Rattle.report.specs.Reports.{Tells, Reports};
+ghost use Rattle.report.specs.Judges.{CanJudge, Judges};
 
 // A rollback's byte in a run.
 const ROLLBACK: u8 = 255;
@@ -315,4 +317,47 @@ fn say_stuck(c: Behaviour, s: Behaviour, cause: u8, run: &[u8], out: &mut [u8]) 
         &mut steps,
         out,
     )
+}
+
+fn say_verdict(c: Behaviour, s: Behaviour, run: &mut [u8], out: &mut [u8]) -> Reported
+    requires { ⌜ CanJudge c s (now run) ⌝ }
+    ensures { λ r. ⌜ Judges c s (now (out .entry)) r (now (out .exit)) ⌝ }
+{
+    let v = verdict::judge(c, s, run);
+    match v {
+        Verdict::Compliant(n) => say_compliant(n, out),
+        Verdict::Stuck(cause, n) => {
+            let k = n as usize;
+            say_stuck(c, s, cause, &run[..k], out)
+        }
+        // 13 is not given to what a file gave, and 12 not with room for every run.
+        Verdict::Refused(f) => Reported::Refused(f),
+    }
+}
+
+fn report_in(client: &[u8], server: &[u8], run: &mut [u8], out: &mut [u8]) -> Reported
+    requires { ⌜ length (now run) ≡ 12100 ⌝ }
+    ensures { λ r. ⌜ Reports (now (client .entry)) (now (server .entry)) (now (out .entry)) r (now (out .exit)) ⌝ }
+{
+    let a = aut::read_file(client);
+    let f = a.refusal;
+    if f.number != 0 {
+        return say_refused(b"client", f, out);
+    }
+    let b = aut::read_file(server);
+    let g = b.refusal;
+    if g.number != 0 {
+        return say_refused(b"server", g, out);
+    }
+    let c = a.value;
+    let s = b.value;
+    say_verdict(c, s, run, out)
+}
+
+// The whole output for a client file and a server file, at the front of `out`; or 12, if it is longer.
+pub fn report(client: &[u8], server: &[u8], out: &mut [u8]) -> Reported
+    ensures { λ r. ⌜ Reports (now (client .entry)) (now (server .entry)) (now (out .entry)) r (now (out .exit)) ⌝ }
+{
+    let mut run = [0u8; 12100];
+    report_in(client, server, &mut run, out)
 }

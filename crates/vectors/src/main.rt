@@ -2,6 +2,8 @@
 mod words;
 
 use libc::STDOUT_FILENO;
+ghost use Prim.Native.Nat.{_<_};
+ghost use lib.ListN.{length};
 
 fn print(text: &[u8]) {
     io::write_all(STDOUT_FILENO, text);
@@ -23,13 +25,45 @@ fn run_file(path: &[u8]) {
     print(b"\n");
 }
 
+// The report in one line: its first line, and then the labels of the run.
+fn print_labels(report: &[u8]) {
+    let end = words::next(report, 0, b'\n');
+    print(&report[..end]);
+    let mut at = end;
+    while at < report.len() {
+        at = print_label(report, at);
+    }
+    print(b"\n");
+}
+
+// The next label from the place `at` on; the place after it.
+fn print_label(report: &[u8], at: usize) -> usize
+    requires { ⌜ at < length (now report) ⌝ }
+    ensures { λ r. ⌜ at < r ⌝ }
+{
+    let open = words::next(report, at, b'"');
+    if open == report.len() {
+        return open;
+    }
+    let from = open + 1;
+    let close = words::next(report, from, b'"');
+    print(b" ");
+    print(&report[from..close]);
+    close + 1
+}
+
+fn run_pair(client: &[u8], server: &[u8]) {
+    let mut text = [0u8; 320000];
+    let n = files::judge(client, server, &mut text);
+    print_labels(&text[..n]);
+}
+
 // One file or two, their names with a space between them.
 fn run_files(names: &[u8]) {
     let a = words::next(names, 0, b' ');
     if a < names.len() {
         let b = a + 1;
-        print(&names[..a]);
-        print(&names[b..]);
+        run_pair(&names[..a], &names[b..]);
     } else {
         run_file(names);
     }
