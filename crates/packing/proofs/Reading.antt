@@ -1,16 +1,21 @@
 -- Reading a name, a row and messages from bytes at a place.
 use mathlib.Core.Path.{_≡_, refl, sym, ap, _∙_}
+use mathlib.Core.Bool.{Bool, true, false}
 use mathlib.Core.List.{List, [], _∷_, _++_, append-assoc, append-nil}
-use Prim.Native.Nat.{ℕ, zero, suc, _+_, _*_, _-_, _/_, _^_, _<_, _≤_}
+use Prim.Native.Nat.{ℕ, zero, suc, _+_, _*_, _-_, _/_, _%_, _^_, _<_, _≤_}
 use native.Mathlib.Numerals.{add-one, sub-one}
 use native.Mathlib.Omega.{arith}
-use lib.ListN.{length, getD, set, take, drop, length-drop}
+use borrow.Author.Tests.{eqb-true, eqb-false}
+use lib.Dec.{eqb}
+use lib.ListN.{length, getD, set, take, drop, replicate, length-drop, length-set}
 use lib.Seq.{take-suc, take-suc-set, take-all, getD-drop, drop-drop}
 use Rattle.names.specs.Places.{here}
-use Rattle.behaviour.specs.Limits.{mostLines}
+use Rattle.names.specs.If.{if}
+use Rattle.behaviour.specs.Limits.{mostStates, mostLines}
 use Rattle.behaviour.specs.declared.Message.{Message}
 use Rattle.behaviour.specs.declared.Behaviour.{Behaviour}
-use Rattle.packing.specs.Value.{messageBytes, numberOf, unpackedMessage, unpackedMessages}
+use Rattle.aut.specs.Adding.{unused, bare}
+use Rattle.packing.specs.Value.{messageBytes, valueBytes, numberOf, unpackedMessage, unpackedMessages, whole, unpacked}
 
 -- what a name's beginning is below where k bytes more follow
 unfoldable pub room : ℕ → ℕ
@@ -63,13 +68,73 @@ messages-done a s i p t h l e =
     let k : length a ≤ i = omega arith in
     sym (e ∙ rw (f, take-all i a k) (append-nil a))
 
--- what a value has besides its messages
-pub record Kept (n k : ℕ) (ms gs : List ℕ) (b : Behaviour) : Type 0 where
-  pub states : b .states ≡ n
-  pub count : b .count ≡ k
-  pub marks : b .marks ≡ ms
-  pub signs : b .signs ≡ gs
+-- the messages so far: i of a whole value's, or none of other bytes
+pub record Filled (s : List ℕ) (a : List Message) (i p : ℕ) : Type 0 where
+  pub long : length a ≡ mostLines
+  pub place : p ≡ 2 + 2 * mostStates + i * messageBytes
+  pub of-whole : length s ≡ valueBytes → unpackedMessages mostLines (drop (2 + 2 * mostStates) s) ≡ take i a ++ unpackedMessages (mostLines - i) (drop p s)
+  pub of-other : (length s ≡ valueBytes → ⊥) → a ≡ replicate mostLines unused
 
-pub kept-all : (n k : ℕ) (ms gs : List ℕ) (b : Behaviour) (l : List Message) → Kept n k ms gs b → b .messages ≡ l
-    → b ≡ record { states = n; count = k; marks = ms; signs = gs; messages = l }
-kept-all n k ms gs b l h e = rw (← h .states, ← h .count, ← h .marks, ← h .signs, ← e)
+module _ (s : List ℕ) (n i : ℕ) (e : n ≡ whole s mostLines 0) where
+  pub lines-some : i < n → (length s ≡ valueBytes) × (n ≡ mostLines)
+  lines-some h = go (eqb (length s) valueBytes) refl e
+    where
+      go : (t : Bool) → eqb (length s) valueBytes ≡ t → n ≡ if t mostLines 0 → (length s ≡ valueBytes) × (n ≡ mostLines)
+      go true q f = (eqb-true (length s) valueBytes q, f)
+      go false q f = absurd (omega arith)
+
+  pub filled-more : (a : List Message) (p : ℕ) → Filled s a i p → i < n → Filled s (set a i (unpackedMessage (drop p s))) (i + 1) (p + messageBytes)
+  filled-more a p f h =
+      let w = lines-some h in
+      record {
+        long = length-set a i (unpackedMessage (drop p s)) ∙ f .long;
+        place = omega (arith, f .place);
+        of-whole = λ _. messages-more a s i p _ (omega (arith, w .1)) (f .long) (f .of-whole (w .0));
+        of-other = λ no. absurd (no (w .0));
+      }
+
+  pub filled-done : (a : List Message) (p : ℕ) → Filled s a i p → n ≤ i → a ≡ whole s (unpackedMessages mostLines (drop (2 + 2 * mostStates) s)) (replicate mostLines unused)
+  filled-done a p f h = go (eqb (length s) valueBytes) refl e
+    where
+      go : (t : Bool) → eqb (length s) valueBytes ≡ t → n ≡ if t mostLines 0
+          → a ≡ if t (unpackedMessages mostLines (drop (2 + 2 * mostStates) s)) (replicate mostLines unused)
+      go true q g = messages-done a s i p _ (omega arith) (f .long) (f .of-whole (eqb-true (length s) valueBytes q))
+      go false q g = f .of-other (eqb-false (length s) valueBytes q)
+
+-- two messages a turn
+pub filled-two : (s : List ℕ) (n i : ℕ) → n ≡ whole s mostLines 0 → (a : List Message) (p : ℕ) → Filled s a i p → i < n → i % 2 ≡ 0
+    → Filled s (set (set a i (unpackedMessage (drop p s))) (i + 1) (unpackedMessage (drop (p + messageBytes) s))) (i + 2) (p + 2 * messageBytes)
+filled-two s n i e a p f h z =
+    let w = lines-some s n i e h in
+    let one = filled-more s n i e a p f h in
+    let two = filled-more s n (i + 1) e (set a i (unpackedMessage (drop p s))) (p + messageBytes) one (omega (arith, w .1)) in
+    let j : i + 1 + 1 ≡ i + 2 = omega arith in
+    let q : p + messageBytes + messageBytes ≡ p + 2 * messageBytes = omega arith in
+    rw (j, q) at two
+
+-- the value from its parts
+pub parts-value : (s : List ℕ) → record {
+  states = whole s (getD s 0 0) 0;
+  count = whole s (getD s 1 0) 0;
+  marks = whole s (take mostStates (drop 2 s)) (replicate mostStates 0);
+  signs = whole s (take mostStates (drop (2 + mostStates) s)) (replicate mostStates 0);
+  messages = whole s (unpackedMessages mostLines (drop (2 + 2 * mostStates) s)) (replicate mostLines unused);
+} ≡ unpacked s
+unfolding unpacked
+parts-value s = go (eqb (length s) valueBytes)
+  where
+    go : (t : Bool) → _≡_ {A = Behaviour} (record {
+      states = if t (getD s 0 0) 0;
+      count = if t (getD s 1 0) 0;
+      marks = if t (take mostStates (drop 2 s)) (replicate mostStates 0);
+      signs = if t (take mostStates (drop (2 + mostStates) s)) (replicate mostStates 0);
+      messages = if t (unpackedMessages mostLines (drop (2 + 2 * mostStates) s)) (replicate mostLines unused);
+    }) (if t (record {
+      states = getD s 0 0;
+      count = getD s 1 0;
+      marks = take mostStates (drop 2 s);
+      signs = take mostStates (drop (2 + mostStates) s);
+      messages = unpackedMessages mostLines (drop (2 + 2 * mostStates) s);
+    }) (bare 0))
+    go true = refl
+    go false = refl

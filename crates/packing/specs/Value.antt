@@ -46,9 +46,14 @@ unpackedMessages (suc k) s = unpackedMessage s ∷ unpackedMessages k (drop mess
 unfoldable pub packed : Behaviour → List ℕ
 packed b = b .states ∷ b .count ∷ (b .marks ++ (b .signs ++ packedMessages (b .messages)))
 
+-- the bytes are as many as a value's: a, else b
+module _ {A : Type 0} where
+  abbrev pub whole : List ℕ → A → A → A
+  whole s a b = if (eqb (length s) valueBytes) a b
+
 -- the value of some bytes; bytes of another length than a value's code none, and stand for the value of zero states
 unfoldable pub unpacked : List ℕ → Behaviour
-unpacked s = if (eqb (length s) valueBytes) (record {
+unpacked s = whole s (record {
   states = getD s 0 0;
   count = getD s 1 0;
   marks = take mostStates (drop 2 s);

@@ -14,11 +14,12 @@ use stands::Stand;
 ghost use mathlib.Core.Path.{_≡_};
 ghost use Prim.Native.Nat.{_+_, _*_, _≤_, _<_};
 ghost use lib.Dec.{leb};
-ghost use lib.ListN.{length, drop, take};
+ghost use lib.ListN.{length, getD, drop, take, replicate};
 ghost use lib.Seq.{sets};
 ghost use Rattle.names.specs.Names.{nameBytes};
 ghost use Rattle.behaviour.specs.Limits.{mostStates, mostLines};
-ghost use Rattle.packing.specs.Value.{messageBytes, valueBytes, bytesOf, numberOf, packedMessage, packedMessages, unpackedMessage, unpackedMessages, unpacked, left};
+ghost use Rattle.aut.specs.Adding.{unused};
+ghost use Rattle.packing.specs.Value.{messageBytes, valueBytes, bytesOf, numberOf, packedMessage, packedMessages, unpackedMessage, unpackedMessages, whole, unpacked, left};
 ghost use Rattle.packing.specs.Numbers.{clientPointNumber, serverPointNumber, clientPointOf, serverPointOf, packedStand, unpackedStand};
 
 // A message: from, to, and the bytes of the name.
@@ -120,6 +121,38 @@ fn message_at(s: &[u8], at: usize) -> Message
     Message { name, from, to }
 }
 
+// How many messages the bytes code: all of a value's, or none if they are not of a value's length.
+fn lines_in(s: &[u8]) -> usize
+    ensures { λ r. ⌜ r ≡ whole (now (s .entry)) mostLines 0 ⌝ }
+{
+    if s.len() == VALUE_BYTES {
+        return LINES;
+    }
+    0
+}
+
+// One array, filled in one place: each copy of it would take stack. Two messages a turn: a shorter loop makes `unpack` so small
+// that LLVM takes it into its callers, and with it the array into their stack.
+fn messages_in(s: &[u8]) -> Messages
+    ensures { λ r. ⌜ r ≡ whole (now (s .entry)) (unpackedMessages mostLines (drop (2 + 2 * mostStates) (now (s .entry)))) (replicate mostLines unused) ⌝ }
+{
+    let n = lines_in(s);
+    let mut a = [Message {
+        name: 0,
+        from: 0,
+        to: 0,
+    }; LINES];
+    let mut i = 0;
+    let mut p = 2 + 2 * STATES;
+    while i < n {
+        a[i] = message_at(s, p);
+        a[i + 1] = message_at(s, p + MESSAGE_BYTES);
+        p += 2 * MESSAGE_BYTES;
+        i += 2;
+    }
+    a
+}
+
 fn row_at(s: &[u8], at: usize) -> PerState
     requires { ⌜ at + mostStates ≤ length (now s) ⌝ }
     ensures { λ r. ⌜ r ≡ take mostStates (drop at (now (s .entry))) ⌝ }
@@ -133,44 +166,42 @@ fn row_at(s: &[u8], at: usize) -> PerState
     a
 }
 
-// The value with its messages read in place: a second array of them would take stack.
-fn with_messages(s: &[u8], states: u8, count: u8, marks: PerState, signs: PerState) -> Behaviour
-    requires { ⌜ valueBytes ≤ length (now s) ⌝ }
-    ensures { λ r. ⌜ r ≡ record { states = states; count = count; marks = marks; signs = signs; messages = unpackedMessages mostLines (drop (2 + 2 * mostStates) (now (s .entry))) } ⌝ }
+fn row_in(s: &[u8], at: usize) -> PerState
+    requires { ⌜ at + mostStates ≤ valueBytes ⌝ }
+    ensures { λ r. ⌜ r ≡ whole (now (s .entry)) (take mostStates (drop at (now (s .entry)))) (replicate mostStates 0) ⌝ }
 {
-    let mut b = Behaviour {
-        states,
-        count,
-        marks,
-        signs,
-        messages: [Message {
-            name: 0,
-            from: 0,
-            to: 0,
-        }; LINES],
-    };
-    let mut i = 0;
-    let mut p = 2 + 2 * STATES;
-    while i < LINES {
-        b.messages[i] = message_at(s, p);
-        p += MESSAGE_BYTES;
-        i += 1;
+    if s.len() != VALUE_BYTES {
+        return [0u8; STATES];
     }
-    b
+    row_at(s, at)
+}
+
+fn byte_in(s: &[u8], at: usize) -> u8
+    requires { ⌜ at < valueBytes ⌝ }
+    ensures { λ r. ⌜ r ≡ whole (now (s .entry)) (getD (now (s .entry)) at 0) 0 ⌝ }
+{
+    if s.len() != VALUE_BYTES {
+        return 0;
+    }
+    s[at]
 }
 
 // The value that the bytes code; one of zero states if they are not of a value's length.
 pub fn unpack(s: &[u8]) -> Behaviour
     ensures { λ r. ⌜ r ≡ unpacked (now (s .entry)) ⌝ }
 {
-    if s.len() != VALUE_BYTES {
-        return aut::nothing(0);
+    let states = byte_in(s, 0);
+    let count = byte_in(s, 1);
+    let marks = row_in(s, 2);
+    let signs = row_in(s, 2 + STATES);
+    let messages = messages_in(s);
+    Behaviour {
+        states,
+        count,
+        marks,
+        signs,
+        messages,
     }
-    let states = s[0];
-    let count = s[1];
-    let marks = row_at(s, 2);
-    let signs = row_at(s, 2 + STATES);
-    with_messages(s, states, count, marks, signs)
 }
 
 fn wide(x: u8) -> u32

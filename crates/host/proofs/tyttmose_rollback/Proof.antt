@@ -1,0 +1,34 @@
+-- `host::tyttmose_rollback` meets its contract.
+use borrow.Author.Needs.{needs}
+use Rattle.host.proofs.tyttmose_rollback.Statement.{statement}
+use Rattle.host.proofs.tyttmose_rollback.Tie as tie
+
+session-of-requires : tie.Need-session-of-requires
+session-of-requires c κs = search needs
+
+unpack-requires : tie.Need-unpack-requires
+unpack-requires c κs = search needs
+
+unpack-requires-2 : tie.Need-unpack-requires-2
+unpack-requires-2 c κs = search needs
+
+rollback-requires : tie.Need-rollback-requires
+rollback-requires c κs = search needs
+
+session-number-requires : tie.Need-session-number-requires
+session-number-requires c κs = search needs
+
+returns : tie.Need-returns
+returns c =
+    rw (← c .before .before .before .before .session-of .ensures, ← c .before .before .before .unpack .ensures, ← c .before .before .unpack2 .ensures, ← c .before .rollback .ensures) (c .session-number .ensures)
+
+pub tyttmose-rollback-spec : {M : Type 1} → statement M
+tyttmose-rollback-spec =
+    tie.close
+    (tie.spec
+    session-of-requires
+    unpack-requires
+    unpack-requires-2
+    rollback-requires
+    session-number-requires
+    returns)
