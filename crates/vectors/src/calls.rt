@@ -15,10 +15,10 @@ use stands::ServerState;
 use stands::Stand;
 
 // A pair, and the session that the last granted call handed back.
-struct Play {
-    client: Behaviour,
-    server: Behaviour,
-    session: Session,
+pub struct Play {
+    pub client: Behaviour,
+    pub server: Behaviour,
+    pub session: Session,
 }
 
 fn print_client(g: ClientPoint) {
@@ -118,8 +118,8 @@ fn side(path: &[u8]) -> Behaviour {
     value
 }
 
-// The pair of two files, their names with a space between them; nothing said yet.
-fn pair(names: &[u8]) -> Play {
+// The pair of two files, their names with a space between them, at the start. A file with no name counts as empty.
+pub fn pair(names: &[u8]) -> Play {
     let a = next(names, 0, b' ');
     let client = side(&names[..a]);
     let server = side(after(names));
@@ -145,7 +145,7 @@ fn run_call(line: &[u8], first: u8, client: Behaviour, server: Behaviour, s: Ses
     placed(line)
 }
 
-fn run_line(p: Play, line: &[u8]) -> Play {
+pub fn run_line(p: Play, line: &[u8]) -> Play {
     if line.len() == 0 {
         return p;
     }
@@ -163,15 +163,5 @@ fn run_line(p: Play, line: &[u8]) -> Play {
         client,
         server,
         session,
-    }
-}
-
-pub fn run_all(calls: &[u8]) {
-    let mut p = pair(b"a.client a.server");
-    let mut at = 0;
-    while at < calls.len() {
-        let end = next(calls, at, b'\n');
-        p = run_line(p, &calls[at..end]);
-        at = end + 1;
     }
 }

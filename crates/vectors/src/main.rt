@@ -6,6 +6,7 @@ mod prefixes;
 mod words;
 
 use aut::Read;
+use calls::Play;
 use out::print;
 use out::print_refusal;
 ghost use Prim.Native.Nat.{_<_};
@@ -84,36 +85,46 @@ fn run_case(line: &[u8]) {
     }
 }
 
-// What each line of a list names.
+// What the lines of a list are: cases, files whose prefixes are tried, or session calls.
 enum Lines {
     Cases,
     Files,
+    Calls,
 }
 
-fn run_line(lines: Lines, line: &[u8]) {
+// The pair and the session with which the next line's call is made.
+fn run_line(lines: Lines, p: Play, line: &[u8]) -> Play {
     match lines {
-        Lines::Cases => run_case(line),
-        Lines::Files => prefixes::run(line),
+        Lines::Cases => {
+            run_case(line);
+            p
+        }
+        Lines::Files => {
+            prefixes::run(line);
+            p
+        }
+        Lines::Calls => calls::run_line(p, line),
     }
 }
 
 fn run_all(list: &[u8], lines: Lines) {
+    let mut p = calls::pair(b"");
     let mut at = 0;
     while at < list.len() {
         let end = words::next(list, at, b'\n');
-        run_line(lines, &list[at..end]);
+        p = run_line(lines, p, &list[at..end]);
         at = end + 1;
     }
 }
 
+fn run_list(path: &[u8], lines: Lines) {
+    let mut list = [0u8; 8192];
+    let n = files::load(path, &mut list);
+    run_all(&list[..n], lines);
+}
+
 fn main() {
-    let mut index = [0u8; 8192];
-    let n = files::load(b"index", &mut index);
-    run_all(&index[..n], Lines::Cases);
-    let mut good = [0u8; 1024];
-    let k = files::load(b"prefixes", &mut good);
-    run_all(&good[..k], Lines::Files);
-    let mut script = [0u8; 4096];
-    let m = files::load(b"calls", &mut script);
-    calls::run_all(&script[..m]);
+    run_list(b"index", Lines::Cases);
+    run_list(b"prefixes", Lines::Files);
+    run_list(b"calls", Lines::Calls);
 }

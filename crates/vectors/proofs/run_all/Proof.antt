@@ -1,15 +1,22 @@
 -- `vectors::run_all` is safe and ends: each line leaves less of the list.
 use Prim.Native.Nat.{_-_}
 use native.Mathlib.Omega.{arith}
+use borrow.Author.Needs.{needs}
 use lib.ListN.{length}
 use Rattle.vectors.proofs.run_all.Statement.{statement}
 use Rattle.vectors.proofs.run_all.Tie as tie
 
 abbrev Inv-loop : tie.InvT-loop
-Inv-loop list lines at₀ at = Unit {0}
+Inv-loop list lines p₀ at₀ p at = Unit {0}
 
 abbrev μ-loop : tie.MeasureT-loop
-μ-loop list lines at₀ at = length list - at
+μ-loop list lines p₀ at₀ p at = length list - at
+
+slice-aggregate-pair : tie.Need-slice-aggregate-pair Inv-loop μ-loop
+slice-aggregate-pair c = search needs
+
+pair-requires : tie.Need-pair-requires Inv-loop μ-loop
+pair-requires c κs = tt
 
 loop-holds : tie.Need-loop-holds Inv-loop μ-loop
 loop-holds c = tt
@@ -47,6 +54,8 @@ run-all-spec =
     (tie.spec
     Inv-loop
     μ-loop
+    slice-aggregate-pair
+    pair-requires
     loop-holds
     next-requires
     sub-run-line
