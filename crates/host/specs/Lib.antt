@@ -3,3 +3,4 @@ pub mod Calls
 pub mod OneAnswer
 pub mod Parts
 pub mod Sessions
+pub mod Told
