@@ -4,3 +4,5 @@ pub mod OneAnswer
 pub mod Parts
 pub mod Sessions
 pub mod Told
+pub mod ReadTold
+pub mod Enough

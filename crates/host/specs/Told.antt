@@ -1,5 +1,5 @@
 -- What a host takes from a verdict's number, by the functions of include/tyttmose.h, is the verdict.
-use mathlib.Core.Path.{_≡_, refl, sym, _∙_, ap, subst}
+use mathlib.Core.Path.{_≡_, sym, _∙_, ap, subst}
 use mathlib.Core.Bool.{Bool, true, false}
 use mathlib.Core.List.{List}
 use mathlib.Core.Option.{some}
@@ -7,12 +7,10 @@ use mathlib.Core.Logic.{_⊎_, inl, inr}
 use Prim.Native.Nat.{ℕ, _≤_, _<_, _*_}
 use native.Mathlib.Omega.{arith}
 use native.Mathlib.Nat.{mul-le-mul}
-use borrow.Author.Tests.{eq-eqb, ne-eqb}
+use borrow.Author.Tests.{ne-eqb}
 use lib.Dec.{eqb}
-use lib.ListN.{length}
 use Rattle.names.specs.If.{if}
 use Rattle.behaviour.specs.declared.Behaviour.{Behaviour}
-use Rattle.behaviour.specs.declared.Refusal.{Refusal}
 use Rattle.behaviour.specs.Refusals.{refusal}
 use Rattle.behaviour.specs.SoundLaws.{Sized, parts, side-most}
 use Rattle.runs.specs.System as runs
