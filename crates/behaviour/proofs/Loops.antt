@@ -18,39 +18,6 @@ module _ {A : Type 0} (d : A) (l : List A) (i : ℕ) (h : i < length l) where
   pub here : drop i l ≡ getD l i d ∷ drop (i + 1) l
   here = rw (add-one i, drop-cons l i d h)
 
-pub between-pick : (s : ℕ) (l : List Message) → allBetween s l ≡ pick (λ m. not (between s m)) (λ _. false) true l
-unfolding allBetween pick
-between-pick s [] = refl
-between-pick s (m ∷ l) = go (between s m) (between-pick s l)
-  where
-    go : (b : Bool) → allBetween s l ≡ pick (λ m. not (between s m)) (λ _. false) true l
-        → (b && allBetween s l) ≡ if (not b) false (pick (λ m. not (between s m)) (λ _. false) true l)
-    go true r = r
-    go false r = refl
-
-few-sorted : (k : ℕ) (l : List Message) → k ≤ 1 → true ≡ sorted (take k l)
-unfolding sorted
-few-sorted zero l h = refl
-few-sorted (suc zero) [] h = refl
-few-sorted (suc zero) (m ∷ l) h = refl
-few-sorted (suc (suc k)) l h = absurd (omega arith)
-
-module _ (n : ℕ) (a : List Message) (i : ℕ) where
-  pub sorted-end : n ≤ i + 1 → true ≡ sorted (take (n - i) (drop i a))
-  sorted-end h = few-sorted (n - i) (drop i a) (omega arith)
-
-  module _ (j : ℕ) (q : j ≡ i + 1) (h : j < n) (m : n ≤ length a) where
-    two : take (n - i) (drop i a) ≡ getD a i nil ∷ (getD a j nil ∷ take (n - (j + 1)) (drop (j + 1) a))
-    two = next-used n a i (omega arith) m ∙ rw (← q, next-used n a j h m)
-
-    pub sorted-no : before (getD a i nil) (getD a j nil) ≡ false → false ≡ sorted (take (n - i) (drop i a))
-    unfolding sorted
-    sorted-no e = rw (two, e)
-
-    pub sorted-more : before (getD a i nil) (getD a j nil) ≡ true → sorted (take (n - i) (drop i a)) ≡ sorted (take (n - (i + 1)) (drop (i + 1) a))
-    unfolding sorted
-    sorted-more e = rw (two, ← q, next-used n a j h m, e)
-
 module _ (a : List Message) (i : ℕ) where
   pub blank-end : length a ≤ i → true ≡ allBlank (drop i a)
   unfolding allBlank
