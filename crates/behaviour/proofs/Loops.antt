@@ -1,8 +1,8 @@
 -- Laws of the loops that test a value: what is left to test at a place is what there was to test.
-use mathlib.Core.Path.{_≡_, refl, sym, _∙_}
-use mathlib.Core.List.{List, [], _∷_}
-use mathlib.Core.Bool.{Bool, true, false, _&&_, _||_, not}
-use Prim.Native.Nat.{ℕ, zero, suc, _+_, _-_, _<_, _≤_}
+use mathlib.Core.Path.{_≡_}
+use mathlib.Core.List.{List, _∷_}
+use mathlib.Core.Bool.{Bool, true, false, _&&_}
+use Prim.Native.Nat.{ℕ, suc, _+_, _-_, _<_, _≤_}
 use native.Mathlib.Omega.{arith}
 use native.Mathlib.Numerals.{add-one}
 use lib.Dec.{eqb}
@@ -10,9 +10,9 @@ use lib.Seq.{drop-cons}
 use lib.ListN.{length, getD, set, drop, take, drop-of-length-le}
 use Rattle.names.specs.If.{if}
 use Rattle.behaviour.specs.declared.Message.{Message}
-use Rattle.behaviour.specs.Pick.{pick, nil, next-used}
+use Rattle.behaviour.specs.Pick.{nil, next-used}
 use Rattle.behaviour.specs.Spoken.{spoken, settledBy}
-use Rattle.behaviour.specs.Sound.{before, between, allBetween, sorted, blank, allBlank, signed, markable, total}
+use Rattle.behaviour.specs.Sound.{blank, allBlank, signed, markable, total}
 
 module _ {A : Type 0} (d : A) (l : List A) (i : ℕ) (h : i < length l) where
   pub here : drop i l ≡ getD l i d ∷ drop (i + 1) l

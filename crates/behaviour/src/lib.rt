@@ -33,13 +33,14 @@ pub type PerState = [u8; STATES];
 pub type Messages = [Message; LINES];
 
 // marks: 1 at a marked state. signs: 1 at a state that takes, 2 at one that sends, 0 at a finished one.
-// The first count messages are used; unused places are zero.
+// The first count messages are used; unused places are zero. The messages come first: behind smaller fields there would be a gap before
+// them, and LLVM would copy them twice where a value is made.
 pub struct Behaviour {
+    pub messages: Messages,
     pub states: u8,
     pub count: u8,
     pub marks: PerState,
     pub signs: PerState,
-    pub messages: Messages,
 }
 
 // A refusal's number and place, from 01's table.
@@ -122,13 +123,7 @@ fn is_next(last: Message, m: Message, states: u8) -> bool
 fn is_blank(m: Message) -> bool
     ensures { λ r. ⌜ r ≡ blank m ⌝ }
 {
-    if m.from != 0 {
-        return false;
-    }
-    if m.name != 0 {
-        return false;
-    }
-    m.to == 0
+    (m.from == 0) & ((m.name == 0) & (m.to == 0))
 }
 
 fn is_signed(speaking: bool, g: u8) -> bool
@@ -219,7 +214,7 @@ fn is_in_range(states: u8, count: u8, marks: PerState) -> bool
     wide(count) + marked_count(marks) <= LINES
 }
 
-// Does some accepted file give the value? Its own array is read here, each place once: a function that took the value would copy it.
+// Does some accepted file give the value? Its array is read here, each place once: every function that reads a place copies the value.
 pub fn is_sound(b: Behaviour) -> bool
     ensures { λ r. ⌜ r ≡ sound b ⌝ }
 {
@@ -231,6 +226,7 @@ pub fn is_sound(b: Behaviour) -> bool
     }
     let n = wide(count);
     let mut table = [0; STATES];
+    // No name is 0, so the first message comes after an unused place.
     let mut last = Message {
         name: 0,
         from: 0,

@@ -1,12 +1,9 @@
 -- `behaviour::is_in_range` meets its contract.
-use mathlib.Core.Path.{_≡_, ap}
-use Prim.Native.Nat.{_+_, _≤_}
+use mathlib.Core.Path.{_≡_}
 use native.Mathlib.Omega.{arith}
-use lib.Dec.{leb}
 use lib.ListN.{length}
 use borrow.Author.Needs.{needs}
 use borrow.Author.Tests.{le-leb, lt-leb}
-use Rattle.behaviour.specs.Sound.{total}
 use Rattle.behaviour.specs.SoundLaws.{total-most}
 use Rattle.behaviour.proofs.is_in_range.Statement.{statement}
 use Rattle.behaviour.proofs.is_in_range.Tie as tie
