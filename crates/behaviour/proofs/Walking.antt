@@ -12,7 +12,7 @@ use Rattle.names.specs.Laws.{name-positive}
 use Rattle.behaviour.specs.Limits.{mostStates, mostLines}
 use Rattle.behaviour.specs.declared.Message.{Message}
 use Rattle.behaviour.specs.declared.Behaviour.{Behaviour}
-use Rattle.behaviour.specs.Pick.{nil, next-used}
+use Rattle.behaviour.specs.Pick.{unused, next-used}
 use Rattle.behaviour.specs.Spoken.{spoken, settledBy, settled-spoken}
 use Rattle.behaviour.specs.Sound.{messages, before, between, allBetween, sorted, blank, allBlank, settled, total, sound}
 use Rattle.behaviour.specs.SoundLaws.{Sized, between-parts}
@@ -35,8 +35,8 @@ sorted-turn s x (m ∷ l) = go (between s m) (before x m) (inTurn s m l) (allBet
     go false b i p q e = refl
 
 -- no name is 0, so the first message comes after an unused place
-after-nil : (s : ℕ) (m : Message) → between s m ≡ true → before nil m ≡ true
-after-nil s m e = go (ltb 0 (m .from)) refl
+after-unused : (s : ℕ) (m : Message) → between s m ≡ true → before unused m ≡ true
+after-unused s m e = go (ltb 0 (m .from)) refl
   where
     go : (t : Bool) → ltb 0 (m .from) ≡ t → (t || (eqb 0 (m .from) && ltb 0 (m .name))) ≡ true
     go true q = refl
@@ -45,13 +45,13 @@ after-nil s m e = go (ltb 0 (m .from)) refl
         let n : 0 < m .name = omega (arith, name-positive (m .name) (between-parts s m e .name)) in
         rw (eq-eqb 0 (m .from) f, lt-ltb 0 (m .name) n)
 
-first-turn : (s : ℕ) (l : List Message) → inTurn s nil l ≡ (allBetween s l && sorted l)
+first-turn : (s : ℕ) (l : List Message) → inTurn s unused l ≡ (allBetween s l && sorted l)
 unfolding inTurn allBetween sorted
 first-turn s [] = refl
 first-turn s (m ∷ l) = go (between s m) refl (sorted-turn s m l)
   where
-    go : (t : Bool) → between s m ≡ t → inTurn s m l ≡ (allBetween s l && sorted (m ∷ l)) → ((t && before nil m) && inTurn s m l) ≡ ((t && allBetween s l) && sorted (m ∷ l))
-    go true q e = rw (after-nil s m q) e
+    go : (t : Bool) → between s m ≡ t → inTurn s m l ≡ (allBetween s l && sorted (m ∷ l)) → ((t && before unused m) && inTurn s m l) ≡ ((t && allBetween s l) && sorted (m ∷ l))
+    go true q e = rw (after-unused s m q) e
     go false q e = refl
 
 module _ (b : Behaviour) where
@@ -67,7 +67,7 @@ module _ (b : Behaviour) where
   abbrev unread : Bool
   unread = allBlank (drop (b .count) (b .messages)) && settled 0 (b .marks) (b .signs) (messages b)
 
-  in-turns : sound b ≡ (inRange && (inTurn (b .states) nil (messages b) && unread))
+  in-turns : sound b ≡ (inRange && (inTurn (b .states) unused (messages b) && unread))
   unfolding sound
   in-turns = rw (first-turn (b .states) (messages b)) (go (leb 1 (b .states)) (leb (b .states) mostStates) (leb (b .count + total (b .marks)) mostLines) (allBetween (b .states) (messages b)) (sorted (messages b)) unread)
     where
@@ -97,7 +97,7 @@ module _ (b : Behaviour) where
   pub out-of-range : inRange ≡ false → false ≡ sound b
   out-of-range e = sym (in-turns ∙ rw e)
 
-  pub walking-start : Sized b → inRange ≡ true → Walking (replicate mostStates 0) nil 0
+  pub walking-start : Sized b → inRange ≡ true → Walking (replicate mostStates 0) unused 0
   walking-start z e =
       let f = both (leb (b .states) mostStates) _ (both (leb 1 (b .states)) _ e .1) in
       let k : b .count - 0 ≡ b .count = omega arith in
@@ -114,18 +114,18 @@ module _ (b : Behaviour) where
 module _ {b : Behaviour} where
   module _ {table : List ℕ} {last : Message} {i : ℕ} (w : Walking b table last i) where
     module _ (h : i < b .count) where
-      next : left b i ≡ getD (b .messages) i nil ∷ left b (i + 1)
+      next : left b i ≡ getD (b .messages) i unused ∷ left b (i + 1)
       next = next-used (b .count) (b .messages) i h (omega (arith, w .few, w .sized .messages))
 
-      pub walking-no : (between (b .states) (getD (b .messages) i nil) && before last (getD (b .messages) i nil)) ≡ false → false ≡ sound b
+      pub walking-no : (between (b .states) (getD (b .messages) i unused) && before last (getD (b .messages) i unused)) ≡ false → false ≡ sound b
       unfolding inTurn
       walking-no e = sym (w .says ∙ rw (next, e))
 
-      module _ (e : (between (b .states) (getD (b .messages) i nil) && before last (getD (b .messages) i nil)) ≡ true) where
-        pub walking-from : getD (b .messages) i nil .from < mostStates
-        walking-from = omega (arith, between-parts (b .states) (getD (b .messages) i nil) (both (between (b .states) (getD (b .messages) i nil)) _ e .0) .from, w .most)
+      module _ (e : (between (b .states) (getD (b .messages) i unused) && before last (getD (b .messages) i unused)) ≡ true) where
+        pub walking-from : getD (b .messages) i unused .from < mostStates
+        walking-from = omega (arith, between-parts (b .states) (getD (b .messages) i unused) (both (between (b .states) (getD (b .messages) i unused)) _ e .0) .from, w .most)
 
-        pub walking-next : (x : ℕ) → x ≡ getD (b .messages) i nil .from → Walking b (set table x 1) (getD (b .messages) i nil) (i + 1)
+        pub walking-next : (x : ℕ) → x ≡ getD (b .messages) i unused .from → Walking b (set table x 1) (getD (b .messages) i unused) (i + 1)
         unfolding inTurn
         walking-next x q = record {
           says = w .says ∙ rw (next, e);
@@ -153,10 +153,10 @@ module _ {b : Behaviour} where
       here : i < length (b .messages)
       here = omega (arith, w .sized .messages)
 
-      pub blanking-no : blank (getD (b .messages) i nil) ≡ false → false ≡ sound b
+      pub blanking-no : blank (getD (b .messages) i unused) ≡ false → false ≡ sound b
       blanking-no e = sym (w .says ∙ rw (← blank-no (b .messages) i here e))
 
-      pub blanking-next : blank (getD (b .messages) i nil) ≡ true → Blanking b table (i + 1)
+      pub blanking-next : blank (getD (b .messages) i unused) ≡ true → Blanking b table (i + 1)
       blanking-next e = record { says = w .says ∙ rw (blank-more (b .messages) i here e); notes = w .notes; sized = w .sized }
 
     pub blanking-end : mostLines ≤ i → settledBy (b .marks) (b .signs) table ≡ sound b
