@@ -14,7 +14,7 @@ pub sized : (b : Behaviour) (vs : List Val) → Is behaviour.the-row b vs → Si
 sized b vs h =
     let o = struct.owed behaviour.the-type laws.the-laws b vs h in
     record {
-      marks = simp length-map at (o .1 .1 .0 .1 .0 .1);
-      signs = simp length-map at (o .1 .1 .1 .0 .1 .0 .1);
-      messages = simp length-map at (o .1 .1 .1 .1 .0 .1 .0 .1);
+      marks = simp length-map at (o .1 .1 .1 .0 .1 .0 .1);
+      signs = simp length-map at (o .1 .1 .1 .1 .0 .1 .0 .1);
+      messages = simp length-map at (o .0 .1 .0 .1);
     }

@@ -1,3 +1,3 @@
 pub mod Loops
-pub mod Sounding
+mod Walking
 pub mod Lengths

@@ -2,14 +2,16 @@
 ghost use mathlib.Core.Path.{_≡_};
 ghost use mathlib.Core.List.{List};
 ghost use mathlib.Core.Bool.{_&&_};
-ghost use Prim.Native.Nat.{_≤_, _<_};
-ghost use lib.Dec.{eqb};
-ghost use lib.ListN.{length, getD, take, drop, replicate};
+ghost use Prim.Native.Nat.{_+_, _≤_};
+ghost use lib.Dec.{leb, eqb};
+ghost use lib.ListN.{length, getD, take};
 ghost use Rattle.names.specs.If.{if};
 ghost use Rattle.behaviour.specs.declared.Message.{Message};
+ghost use Rattle.behaviour.specs.Pick.{is};
 ghost use Rattle.behaviour.specs.Refusals.{refusal};
-ghost use Rattle.behaviour.specs.Spoken.{spoken, settledBy};
-ghost use Rattle.behaviour.specs.Sound.{before, between, allBetween, sorted, blank, allBlank, signed, markable, total, sound};
+ghost use Rattle.behaviour.specs.Spoken.{settledBy};
+ghost use Rattle.behaviour.specs.Limits.{mostStates, mostLines};
+ghost use Rattle.behaviour.specs.Sound.{before, between, blank, signed, markable, total, sound};
 
 // S is at most this.
 pub const STATES: usize = 10;
@@ -32,13 +34,14 @@ pub type PerState = [u8; STATES];
 pub type Messages = [Message; LINES];
 
 // marks: 1 at a marked state. signs: 1 at a state that takes, 2 at one that sends, 0 at a finished one.
-// The first count messages are used; unused places are zero.
+// The first count messages are used; unused places are zero. The messages come first: behind smaller fields there would be a gap before
+// them, and LLVM would copy them twice where a value is made.
 pub struct Behaviour {
+    pub messages: Messages,
     pub states: u8,
     pub count: u8,
     pub marks: PerState,
     pub signs: PerState,
-    pub messages: Messages,
 }
 
 // A refusal's number and place, from 01's table.
@@ -95,6 +98,16 @@ pub fn comes_before(a: Message, b: Message) -> bool
     a.name < b.name
 }
 
+// Is it the message `n` from the state `x`?
+pub fn is_at(m: Message, x: u8, n: u64) -> bool
+    ensures { λ r. ⌜ r ≡ is x n m ⌝ }
+{
+    if m.from != x {
+        return false;
+    }
+    m.name == n
+}
+
 fn is_between(m: Message, states: u8) -> bool
     ensures { λ r. ⌜ r ≡ between states m ⌝ }
 {
@@ -108,85 +121,20 @@ fn is_between(m: Message, states: u8) -> bool
     names::is_name(n)
 }
 
-// Loops read the value's own array: a copy of it would take stack.
-fn all_between(b: Behaviour, n: usize) -> bool
-    requires { ⌜ n ≤ 96 ⌝ }
-    ensures { λ r. ⌜ r ≡ allBetween (b .states) (take n (b .messages)) ⌝ }
+// A used message, by its own test and the message before it.
+fn is_next(last: Message, m: Message, states: u8) -> bool
+    ensures { λ r. ⌜ r ≡ (between states m && before last m) ⌝ }
 {
-    let states = b.states;
-    let mut i = 0;
-    while i < n {
-        let m = b.messages[i];
-        if !is_between(m, states) {
-            return false;
-        }
-        i += 1;
+    if !is_between(m, states) {
+        return false;
     }
-    true
-}
-
-fn is_sorted(b: Behaviour, n: usize) -> bool
-    requires { ⌜ n ≤ 96 ⌝ }
-    ensures { λ r. ⌜ r ≡ sorted (take n (b .messages)) ⌝ }
-{
-    let mut i = 0;
-    let mut j = 1;
-    while j < n {
-        let x = b.messages[i];
-        let m = b.messages[j];
-        if !comes_before(x, m) {
-            return false;
-        }
-        i += 1;
-        j += 1;
-    }
-    true
+    comes_before(last, m)
 }
 
 fn is_blank(m: Message) -> bool
     ensures { λ r. ⌜ r ≡ blank m ⌝ }
 {
-    if m.from != 0 {
-        return false;
-    }
-    if m.name != 0 {
-        return false;
-    }
-    m.to == 0
-}
-
-fn all_blank(b: Behaviour, n: usize) -> bool
-    ensures { λ r. ⌜ r ≡ allBlank (drop n (b .messages)) ⌝ }
-{
-    let mut i = n;
-    while i < LINES {
-        let m = b.messages[i];
-        if !is_blank(m) {
-            return false;
-        }
-        i += 1;
-    }
-    true
-}
-
-// 1 at each state that some message is from.
-fn speaking(b: Behaviour, n: usize) -> PerState
-    requires { ⌜ n ≤ 96 ⌝ }
-    ensures { λ r. ⌜ r ≡ spoken (replicate 10 0) (take n (b .messages)) ⌝ }
-{
-    let mut table = [0; STATES];
-    let mut i = 0;
-    while i < n {
-        let m = b.messages[i];
-        let x = wide(m.from);
-        if x < STATES {
-            table[x] = 1;
-            i += 1;
-        } else {
-            i += 1;
-        }
-    }
-    table
+    (m.from == 0) & ((m.name == 0) & (m.to == 0))
 }
 
 fn is_signed(speaking: bool, g: u8) -> bool
@@ -264,32 +212,55 @@ pub fn marked_count(marks: PerState) -> usize
     n
 }
 
-// Does some accepted file give the value?
-pub fn is_sound(b: Behaviour) -> bool
-    ensures { λ r. ⌜ r ≡ sound b ⌝ }
+// S and T are in range; T counts mark lines too.
+fn is_in_range(states: u8, count: u8, marks: PerState) -> bool
+    ensures { λ r. ⌜ r ≡ (leb 1 states && (leb states mostStates && leb (count + total marks) mostLines)) ⌝ }
 {
-    let states = b.states;
     if states < 1 {
         return false;
     }
     if STATES < wide(states) {
         return false;
     }
+    wide(count) + marked_count(marks) <= LINES
+}
+
+// Does some accepted file give the value? Its array is read here, each place once: every function that reads a place copies the value.
+pub fn is_sound(b: Behaviour) -> bool
+    ensures { λ r. ⌜ r ≡ sound b ⌝ }
+{
+    let states = b.states;
+    let count = b.count;
     let marks = b.marks;
-    let n = wide(b.count);
-    if LINES < n + marked_count(marks) {
+    if !is_in_range(states, count, marks) {
         return false;
     }
-    if !all_between(b, n) {
-        return false;
+    let n = wide(count);
+    let mut table = [0; STATES];
+    // No name is 0, so the first message comes after an unused place.
+    let mut last = Message {
+        name: 0,
+        from: 0,
+        to: 0,
+    };
+    let mut i = 0;
+    while i < n {
+        let m = b.messages[i];
+        if !is_next(last, m, states) {
+            return false;
+        }
+        let x = wide(m.from);
+        table[x] = 1;
+        last = m;
+        i += 1;
     }
-    if !is_sorted(b, n) {
-        return false;
+    while i < LINES {
+        let m = b.messages[i];
+        if !is_blank(m) {
+            return false;
+        }
+        i += 1;
     }
-    if !all_blank(b, n) {
-        return false;
-    }
-    let table = speaking(b, n);
     let signs = b.signs;
     is_settled(marks, signs, table)
 }

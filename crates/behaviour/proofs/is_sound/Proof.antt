@@ -1,125 +1,129 @@
 -- `behaviour::is_sound` meets its contract.
-use mathlib.Core.Path.{_≡_, refl, sym, ap, _∙_}
-use Prim.Native.Nat.{_+_, _<_, _≤_}
+use mathlib.Core.Path.{_≡_, sym, _∙_}
+use Prim.Native.Nat.{_-_}
 use native.Mathlib.Omega.{arith}
-use lib.ListN.{length, take}
 use borrow.Author.Tests.{not-true, not-false}
 use borrow.Author.Needs.{needs}
-use Rattle.behaviour.specs.Sound.{total}
-use Rattle.behaviour.specs.SoundLaws.{total-most}
-use Rattle.behaviour.specs.Spoken.{settledBy, settled-spoken}
 use Rattle.behaviour.proofs.Lengths.{sized}
-use Rattle.behaviour.proofs.Sounding.{none-stateless, none-wider, none-longer, in-range}
+use Rattle.behaviour.proofs.Walking.{Walking, Blanking, out-of-range, walking-start, walking-no, walking-from, walking-next, walking-end, blanking-no, blanking-next, blanking-end}
 use Rattle.behaviour.proofs.is_sound.Statement.{statement}
 use Rattle.behaviour.proofs.is_sound.Tie as tie
 
-returns : tie.Need-returns
-returns c = none-stateless (c .before .args .b) (c .if1 .taken)
+abbrev Inv-loop : tie.InvT-loop
+Inv-loop b states count marks n table₀ last₀ i₀ table last i = Walking b table last i
 
-wide-requires : tie.Need-wide-requires
+abbrev μ-loop : tie.MeasureT-loop
+μ-loop b states count marks n table₀ last₀ i₀ table last i = n - i
+
+abbrev Inv-loop2 : tie.InvT-loop2
+Inv-loop2 b states count marks n table i₀ i = Blanking b table i
+
+abbrev μ-loop2 : tie.MeasureT-loop2
+μ-loop2 b states count marks n table i₀ i = 96 - i
+
+is-in-range-requires : tie.Need-is-in-range-requires Inv-loop μ-loop Inv-loop2 μ-loop2
+is-in-range-requires c κs = search needs
+
+returns : tie.Need-returns Inv-loop μ-loop Inv-loop2 μ-loop2
+returns c = out-of-range (c .before .before .before .args .t1) (sym (c .before .is-in-range .ensures) ∙ not-true _ (c .if1 .taken))
+
+wide-requires : tie.Need-wide-requires Inv-loop μ-loop Inv-loop2 μ-loop2
 wide-requires c κs = search needs
 
-returns-2 : tie.Need-returns-2
-returns-2 c = none-wider (c .before .before .before .args .b) (omega arith)
+loop-holds : tie.Need-loop-holds Inv-loop μ-loop Inv-loop2 μ-loop2
+loop-holds c =
+    let s = c .before .before .before .before in
+    walking-start (s .args .t1) (sized (s .args .t1) _ (s .good .0)) (sym (c .before .before .is-in-range .ensures) ∙ not-false _ (c .before .if1 .left))
 
-wide-requires-2 : tie.Need-wide-requires-2
+mul-m : tie.Need-mul-m Inv-loop μ-loop Inv-loop2 μ-loop2
+mul-m c = omega arith
+
+element-copy-out-m : tie.Need-element-copy-out-m Inv-loop μ-loop Inv-loop2 μ-loop2
+element-copy-out-m c = omega arith
+
+is-next-requires : tie.Need-is-next-requires Inv-loop μ-loop Inv-loop2 μ-loop2
+is-next-requires c κs = search needs
+
+returns-2 : tie.Need-returns-2 Inv-loop μ-loop Inv-loop2 μ-loop2
+returns-2 c = walking-no (c .before .before .before .before .loop .inv) (omega arith) (sym (c .before .is-next .ensures) ∙ not-true _ (c .if2 .taken))
+
+wide-requires-2 : tie.Need-wide-requires-2 Inv-loop μ-loop Inv-loop2 μ-loop2
 wide-requires-2 c κs = search needs
 
-marked-count-requires : tie.Need-marked-count-requires
-marked-count-requires c κs = search needs
+array-write-table : tie.Need-array-write-table Inv-loop μ-loop Inv-loop2 μ-loop2
+array-write-table c =
+    let l = c .before .before .before .before .before .loop in
+    omega (arith, walking-from (l .inv) (omega arith) (sym (c .before .before .is-next .ensures) ∙ not-false _ (c .before .if2 .left)))
 
-add-if3 : tie.Need-add-if3
-add-if3 c =
-    let b = c .before .before .before .before .before .before .args .b in
-    let l : length (b .marks) ≡ 10 = search needs in
-    omega (arith, total-most (b .marks))
+add-i : tie.Need-add-i Inv-loop μ-loop Inv-loop2 μ-loop2
+add-i c = search needs
 
-returns-3 : tie.Need-returns-3
-returns-3 c =
-    none-longer (c .before .before .before .before .before .before .before .args .b) (omega arith) (omega arith) (omega arith)
+loop-less : tie.Need-loop-less Inv-loop μ-loop Inv-loop2 μ-loop2
+loop-less c = search needs
 
-all-between-requires : tie.Need-all-between-requires
-all-between-requires c κs = omega arith
+loop-again : tie.Need-loop-again Inv-loop μ-loop Inv-loop2 μ-loop2
+loop-again c =
+    let l = c .before .before .before .before .before .loop in
+    walking-next (l .inv) (omega arith) (sym (c .before .before .is-next .ensures) ∙ not-false _ (c .before .if2 .left)) (c .wide2 .result) (c .wide2 .ensures)
 
-returns-4 : tie.Need-returns-4
-returns-4 c =
-    let s = c .before .before in
-    rw (
-      in-range (s .before .before .before .before .before .before .before .args .b) (omega arith) (omega arith) (s .before .before .wide2 .result) (s .before .before .wide2 .ensures) (omega arith),
-      ← c .before .all-between .ensures,
-      not-true (c .before .all-between .result) (c .if4 .taken),
-    )
+loop2-holds : tie.Need-loop2-holds Inv-loop μ-loop Inv-loop2 μ-loop2
+loop2-holds c = walking-end (c .before .loop .inv) (omega arith)
 
-is-sorted-requires : tie.Need-is-sorted-requires
-is-sorted-requires c κs = omega arith
+mul-m-2 : tie.Need-mul-m-2 Inv-loop μ-loop Inv-loop2 μ-loop2
+mul-m-2 c = search needs
 
-returns-5 : tie.Need-returns-5
-returns-5 c =
-    let s = c .before .before .before .before in
-    rw (
-      in-range (s .before .before .before .before .before .before .before .args .b) (omega arith) (omega arith) (s .before .before .wide2 .result) (s .before .before .wide2 .ensures) (omega arith),
-      ← c .before .before .before .all-between .ensures,
-      not-false (c .before .before .before .all-between .result) (c .before .before .if4 .left),
-      ← c .before .is-sorted .ensures,
-      not-true (c .before .is-sorted .result) (c .if5 .taken),
-    )
+element-copy-out-m-2 : tie.Need-element-copy-out-m-2 Inv-loop μ-loop Inv-loop2 μ-loop2
+element-copy-out-m-2 c = search needs
 
-all-blank-requires : tie.Need-all-blank-requires
-all-blank-requires c κs = search needs
+is-blank-requires : tie.Need-is-blank-requires Inv-loop μ-loop Inv-loop2 μ-loop2
+is-blank-requires c κs = search needs
 
-returns-6 : tie.Need-returns-6
-returns-6 c =
-    let s = c .before .before .before .before .before .before in
-    rw (
-      in-range (s .before .before .before .before .before .before .before .args .b) (omega arith) (omega arith) (s .before .before .wide2 .result) (s .before .before .wide2 .ensures) (omega arith),
-      ← c .before .before .before .before .before .all-between .ensures,
-      not-false (c .before .before .before .before .before .all-between .result) (c .before .before .before .before .if4 .left),
-      ← c .before .before .before .is-sorted .ensures,
-      not-false (c .before .before .before .is-sorted .result) (c .before .before .if5 .left),
-      ← c .before .all-blank .ensures,
-      not-true (c .before .all-blank .result) (c .if6 .taken),
-    )
+returns-3 : tie.Need-returns-3 Inv-loop μ-loop Inv-loop2 μ-loop2
+returns-3 c = blanking-no (c .before .before .before .before .loop2 .inv) (omega arith) (sym (c .before .is-blank .ensures) ∙ not-true _ (c .if3 .taken))
 
-speaking-requires : tie.Need-speaking-requires
-speaking-requires c κs = omega arith
+add-i-2 : tie.Need-add-i-2 Inv-loop μ-loop Inv-loop2 μ-loop2
+add-i-2 c = search needs
 
-is-settled-requires : tie.Need-is-settled-requires
+loop2-less : tie.Need-loop2-less Inv-loop μ-loop Inv-loop2 μ-loop2
+loop2-less c = search needs
+
+loop2-again : tie.Need-loop2-again Inv-loop μ-loop Inv-loop2 μ-loop2
+loop2-again c = blanking-next (c .before .before .before .before .loop2 .inv) (omega arith) (sym (c .before .is-blank .ensures) ∙ not-false _ (c .if3 .left))
+
+is-settled-requires : tie.Need-is-settled-requires Inv-loop μ-loop Inv-loop2 μ-loop2
 is-settled-requires c κs = search needs
 
-returns-7 : tie.Need-returns-7
-returns-7 c =
-    let s = c .before .before .before .before .before .before .before .before .before in
-    let b = s .before .before .before .before .before .before .before .args .b in
-    rw (
-      in-range b (omega arith) (omega arith) (s .before .before .wide2 .result) (s .before .before .wide2 .ensures) (omega arith),
-      ← c .before .before .before .before .before .before .before .before .all-between .ensures,
-      not-false (c .before .before .before .before .before .before .before .before .all-between .result) (c .before .before .before .before .before .before .before .if4 .left),
-      ← c .before .before .before .before .before .before .is-sorted .ensures,
-      not-false (c .before .before .before .before .before .before .is-sorted .result) (c .before .before .before .before .before .if5 .left),
-      ← c .before .before .before .before .all-blank .ensures,
-      not-false (c .before .before .before .before .all-blank .result) (c .before .before .before .if6 .left),
-    )
-    (c .is-settled .ensures
-    ∙ ap (settledBy (b .marks) (b .signs)) (c .before .before .speaking .ensures)
-    ∙ settled-spoken (take (s .before .before .wide2 .result) (b .messages)) (b .marks) (b .signs) (sized b _ (s .before .before .before .before .before .before .before .good .0) .marks))
+returns-4 : tie.Need-returns-4 Inv-loop μ-loop Inv-loop2 μ-loop2
+returns-4 c = c .is-settled .ensures ∙ blanking-end (c .before .before .before .loop2 .inv) (omega arith)
 
 pub is-sound-spec : {M : Type 1} → statement M
 is-sound-spec =
     tie.close
     (tie.spec
+    Inv-loop
+    μ-loop
+    Inv-loop2
+    μ-loop2
+    is-in-range-requires
     returns
     wide-requires
+    loop-holds
+    mul-m
+    element-copy-out-m
+    is-next-requires
     returns-2
     wide-requires-2
-    marked-count-requires
-    add-if3
+    array-write-table
+    add-i
+    loop-less
+    loop-again
+    loop2-holds
+    mul-m-2
+    element-copy-out-m-2
+    is-blank-requires
     returns-3
-    all-between-requires
-    returns-4
-    is-sorted-requires
-    returns-5
-    all-blank-requires
-    returns-6
-    speaking-requires
+    add-i-2
+    loop2-less
+    loop2-again
     is-settled-requires
-    returns-7)
+    returns-4)
