@@ -1,2 +1,5 @@
 pub mod Table
 pub mod Reading
+pub mod Values
+pub mod Sessions
+pub mod Verdicts
