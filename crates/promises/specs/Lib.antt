@@ -3,3 +3,4 @@ pub mod Reading
 pub mod Values
 pub mod Sessions
 pub mod Verdicts
+pub mod Bounds
