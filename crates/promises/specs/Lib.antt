@@ -4,3 +4,4 @@ pub mod Values
 pub mod Sessions
 pub mod Verdicts
 pub mod Bounds
+pub mod Boundary

@@ -133,6 +133,9 @@ module _ (f g out : List ℕ) where
       go true i h k = q (leb-true (length told) (length out) i) h
       go false i h k = p (leb-false (length told) (length out) i) h k
 
+  pub report-granted : (left : List ℕ) (n : ℕ) (h : Reports f g out (reported.Bytes n) left) (A : Type 0) → (n ≡ length (h .text) → A) → A
+  report-granted left n h A k = telling A (h .text) (reported.Bytes n) left (h .told) (λ _ e _. absurd (let z : _≡_ {A = ℕ} 0 1 = cc in omega arith)) (λ _ e. k (let i : n ≡ length (h .text) = cc in i))
+
   pub report-refused : (x : Refusal) (left : List ℕ) → Reports f g out (reported.Refused x) left → InTable x × (left ≡ out)
   report-refused x left h = telling (InTable x × (left ≡ out)) (h .text) (reported.Refused x) left (h .told)
       (λ _ e k. (let i : x ≡ refusal 12 0 = cc in rw i longer-than-lent, k))
