@@ -5,3 +5,4 @@ pub mod Sessions
 pub mod Verdicts
 pub mod Bounds
 pub mod Boundary
+pub mod Numbers
