@@ -6,3 +6,4 @@ pub mod Verdicts
 pub mod Bounds
 pub mod Boundary
 pub mod Numbers
+pub mod Through

@@ -15,7 +15,6 @@ use Rattle.behaviour.specs.Sound.{sound}
 use Rattle.stands.specs.declared.Stand.{Stand}
 use Rattle.stands.specs.declared.ClientState.{ClientState}
 use Rattle.stands.specs.declared.ServerState.{ServerState}
-use Rattle.stands.specs.Stands as rules
 use Rattle.compliance.specs.SoundStand.{Sound}
 use Rattle.steps.specs.Tests.{isStand, stand-sound}
 use Rattle.verdict.specs.Answer.{BothSound}
@@ -36,10 +35,7 @@ use Rattle.packing.specs.BackStand.{Small, stand-back}
 use Rattle.packing.specs.Value.{unpacked}
 use Rattle.host.specs.Numbers.{refusedNumber, sessionNumber, sessionOf}
 use Rattle.host.specs.Calls.{Opens, Messages, RollsBack}
-use Rattle.promises.specs.Table
-use Rattle.promises.specs.Table.{InTable}
-use Rattle.promises.specs.Sessions as sessions
-use Rattle.promises.specs.Sessions.{called, call-refused, open-refused}
+use Rattle.promises.specs.Sessions.{answered-refused, open-refused}
 use Rattle.promises.specs.Bounds.{unpacked-sized, stand-small, packed-below}
 use Rattle.promises.specs.Boundary.{refused-above}
 
@@ -63,12 +59,6 @@ seenOf l = record {
   client = λ h. unpackedStand (l .holds h) .client;
   server = λ h. unpackedStand (l .holds h) .server;
 }
-
--- a call that is refused is refused by the table
-answered-refused : (c s : Behaviour) (z : Session) (k : Call) (f : Refusal) → answered c s z k ≡ answer.Refused f → InTable f
-unfolding answered messaged rolledBack
-answered-refused c s z (message n) f e = call-refused Table.message-not-possible (subst (sessions.Called c s (z .stand) 16 (rules.said c s (z .stand) (named n))) e (called c s (z .stand) 16 (rules.said c s (z .stand) (named n))))
-answered-refused c s z rollback f e = call-refused Table.rollback-not-possible (subst (sessions.Called c s (z .stand) 17 (rules.rollback (z .stand))) e (called c s (z .stand) 17 (rules.rollback (z .stand))))
 
 no-fault : (c s : Behaviour) (p : Stand) → fault c s p ≡ 0 → Sound c s p
 unfolding fault

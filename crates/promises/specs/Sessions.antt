@@ -21,10 +21,17 @@ use Rattle.compliance.specs.SoundStand.{Sound}
 use Rattle.steps.specs.Tests.{isStand, stand-sound, sound-stand}
 use Rattle.stands.specs.Judgement.{compliant, stuck, Judged}
 use Rattle.verdict.specs.Answer.{BothSound, Unsound}
+use Rattle.stands.specs.Stands as rules
+use Rattle.history.specs.Calls.{Call, message, rollback}
+use Rattle.session.specs.declared.Session.{Session}
 use Rattle.session.specs.declared.Answer.{Answer}
 use Rattle.session.specs.declared.Answer.the-variants as answer
-use Rattle.session.specs.Answers.{refused, fault, checked, stepped}
+use Rattle.session.specs.Answers.{refused, fault, checked, stepped, named, messaged, rolledBack}
 use Rattle.session.specs.Opening.{Begins, NotCompliant, Opens}
+use Rattle.session.specs.Watched.{answered}
+use Rattle.lines.specs.declared.Kept.{Kept}
+use Rattle.lines.specs.declared.Outcome.the-variants as outcome
+use Rattle.lines.specs.Lent.{keptOf}
 use Rattle.promises.specs.Table
 use Rattle.promises.specs.Table.{InTable}
 use Rattle.promises.specs.Values.{unlike, number, one-unsound, both-sound, sounds}
@@ -86,6 +93,20 @@ call-off {c = c} {s = s} g h w (unsound e) = absurd (one-unsound c s e (g, h))
 call-off g h w (no-stand b n) = absurd (n w)
 call-off g h w (off b o e) = (λ _. e, λ _. refl)
 call-off g h w (step b o q e) = (granted-not, λ i. absurd (let z : _≡_ {A = ℕ} 0 1 = cc (e, i) in omega arith))
+
+-- a call that is refused is refused by the table
+pub answered-refused : (c s : Behaviour) (z : Session) (k : Call) (f : Refusal) → answered c s z k ≡ answer.Refused f → InTable f
+unfolding answered messaged rolledBack
+answered-refused c s z (message n) f e = call-refused Table.message-not-possible (subst (Called c s (z .stand) 16 (rules.said c s (z .stand) (named n))) e (called c s (z .stand) 16 (rules.said c s (z .stand) (named n))))
+answered-refused c s z rollback f e = call-refused Table.rollback-not-possible (subst (Called c s (z .stand) 17 (rules.rollback (z .stand))) e (called c s (z .stand) 17 (rules.rollback (z .stand))))
+
+-- what a lent record holds after a call that is refused
+pub kept-refused : (line y : Session) (a : Answer) (f : Refusal) → keptOf line a ≡ record { session = y; outcome = outcome.Refused f } → (a ≡ answer.Refused f) × (y ≡ line)
+kept-refused line y (answer.Next z) f e = absurd (let i = ap (λ (k : Kept). k .outcome) e in let n : _≡_ {A = ℕ} 0 1 = cc in omega arith)
+kept-refused line y (answer.Refused g) f e =
+    let i = ap (λ (k : Kept). k .outcome) e in
+    let j : g ≡ f = cc in
+    (ap answer.Refused j, sym (ap (λ (k : Kept). k .session) e))
 
 -- an opening
 module _ (c s : Behaviour) where
