@@ -1,15 +1,13 @@
 -- Calls from C: every answer is below 2^32 and a grant, or it is a refusal of the table and leaves lent memory as it was.
-use mathlib.Core.Path.{_≡_, refl, sym, ap, subst, _∙_}
+use mathlib.Core.Path.{_≡_, refl, ap, _∙_}
 use mathlib.Core.Bool.{Bool, true, false}
 use mathlib.Core.List.{List}
 use mathlib.Core.Option.{Option, none, some}
-use mathlib.Core.Logic.{_⊎_, inl, inr}
-use Prim.Native.Nat.{ℕ, suc, _+_, _*_, _<_, _≤_}
+use Prim.Native.Nat.{ℕ, _<_, _≤_}
 use native.Mathlib.Omega.{arith}
 use borrow.Author.Tests.{ne-eqb, eq-eqb}
 use lib.Dec.{leb, eqb}
 use lib.ListN.{length}
-use Rattle.names.specs.If.{if}
 use Rattle.behaviour.specs.declared.Behaviour.{Behaviour}
 use Rattle.behaviour.specs.declared.Refusal.{Refusal}
 use Rattle.behaviour.specs.SoundLaws.{parts}
@@ -21,7 +19,7 @@ use Rattle.writer.specs.Text.{text}
 use Rattle.writer.specs.Lengths as lengths
 use Rattle.writer.specs.Written as writer
 use Rattle.stands.specs.declared.Stand.{Stand}
-use Rattle.stands.specs.Stands.{start, said}
+use Rattle.stands.specs.Stands.{said}
 use Rattle.stands.specs.Stands as rules
 use Rattle.compliance.specs.Kept.{message-sound, rollback-sound}
 use Rattle.compliance.specs.SoundStand.{Sound}
@@ -115,8 +113,12 @@ c-judge c s run left r h = go (h .verdict) (h .says) (h .number)
     go (verdict.Compliant k) y i =
         granted (omega (arith, stands-few (unpacked c) (unpacked s) (unpacked-sized c) (unpacked-sized s) (y .sounds) k (counted (unpacked c) (unpacked s) run k (y .judged))))
     go (verdict.Stuck e n) y i =
-        granted (omega (arith, cause-few (unpacked c) (unpacked s) (unpacked-sized c) (unpacked-sized s) (y .sounds) e (y .steps) (y .judged),
-        steps-few (unpacked c) (unpacked s) (unpacked-sized c) (unpacked-sized s) (y .sounds) e (y .steps) (y .judged), y .long))
+        granted (omega (
+          arith,
+          cause-few (unpacked c) (unpacked s) (unpacked-sized c) (unpacked-sized s) (y .sounds) e (y .steps) (y .judged),
+          steps-few (unpacked c) (unpacked s) (unpacked-sized c) (unpacked-sized s) (y .sounds) e (y .steps) (y .judged),
+          y .long,
+        ))
     go (verdict.Refused f) y i = let t = judge-refused (unpacked c) (unpacked s) run left f y in refused f i (t .0) (t .1)
 
 pub c-text : (f g out left : List ℕ) (r : ℕ) → Texts f g out r left → Answered r (left ≡ out)

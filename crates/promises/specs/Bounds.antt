@@ -1,23 +1,23 @@
 -- How large what is granted can be: every grant fits into the lower half of an answer to C.
 use mathlib.Core.Path.{_≡_, refl, sym, ap, subst, _∙_}
 use mathlib.Core.Bool.{Bool, true, false}
-use mathlib.Core.List.{List, [], _∷_, _++_}
-use mathlib.Core.Option.{Option, none, some}
+use mathlib.Core.List.{List}
+use mathlib.Core.Option.{some}
 use Prim.Native.Nat.{ℕ, zero, suc, _+_, _*_, _<_, _≤_}
 use native.Mathlib.Omega.{arith}
 use native.Mathlib.Nat.{mul-le-mul}
 use borrow.Author.Tests.{eqb-true}
 use lib.Dec.{eqb}
-use lib.ListN.{length, drop, take, length-append, length-drop, length-replicate}
+use lib.ListN.{length, drop, length-drop, length-replicate}
 use lib.Seq.{length-take-le}
 use Rattle.names.specs.If.{if}
 use Rattle.behaviour.specs.declared.Message.{Message}
 use Rattle.behaviour.specs.declared.Behaviour.{Behaviour}
 use Rattle.behaviour.specs.Limits.{mostStates, mostLines}
 use Rattle.behaviour.specs.Sound.{sound}
-use Rattle.behaviour.specs.SoundLaws.{Sized, Parts, parts, side-most, mark-below}
+use Rattle.behaviour.specs.SoundLaws.{Sized, parts, side-most, mark-below}
 use Rattle.aut.specs.Adding.{unused, bare}
-use Rattle.aut.specs.File.{accept, file}
+use Rattle.aut.specs.File.{file}
 use Rattle.runs.specs.System.{Reachable, after}
 use Rattle.runs.specs.System as runs
 use Rattle.runs.specs.Unique.{pigeon}
@@ -32,7 +32,7 @@ use Rattle.stands.specs.Cases.{bytes}
 use Rattle.compliance.specs.SoundStand.{clientHeld, serverHeld, Sound, Marked}
 use Rattle.verdict.specs.Answer.{BothSound}
 use Rattle.sides.specs.Numbers.{size, number, stand, stand-number, number-below}
-use Rattle.packing.specs.Value.{valueBytes, messageBytes, unpackedMessages, whole, unpacked}
+use Rattle.packing.specs.Value.{valueBytes, messageBytes, unpackedMessages, unpacked}
 use Rattle.packing.specs.Numbers.{clientPointNumber, serverPointNumber, packedStand}
 use Rattle.packing.specs.BackStand.{Small, ClientBelow, ServerBelow}
 use Rattle.roundtrip.specs.Theorems.{read-sound}
@@ -70,9 +70,12 @@ module _ (c s : Behaviour) (a : Sized c) (b : Sized s) (k : BothSound c s) where
   -- "There are at most 110 × 110 = 12,100 stands of a pair"
   pub stands-few : (n : ℕ) → Reachable (pair c s) n → n ≤ 12100
   stands-few n r =
-      omega (arith, mul-le-mul (side-most c a (parts c (k .client))) (side-most s b (parts s (k .server))),
-      pigeon n (size c * size s) (λ i _. number c s (r .these .node i)) (λ i h. number-below c s (r .these .node i) (at i h))
-      (λ i j h l e. r .these .once i j h l (sym (stand-number c s (r .these .node i) (at i h)) ∙ ap (stand c s) e ∙ stand-number c s (r .these .node j) (at j l))))
+      omega (
+        arith,
+        mul-le-mul (side-most c a (parts c (k .client))) (side-most s b (parts s (k .server))),
+        pigeon n (size c * size s) (λ i _. number c s (r .these .node i)) (λ i h. number-below c s (r .these .node i) (at i h))
+            (λ i j h l e. r .these .once i j h l (sym (stand-number c s (r .these .node i) (at i h)) ∙ ap (stand c s) e ∙ stand-number c s (r .these .node j) (at j l))),
+      )
     where
       at : (i : ℕ) → i < n → Sound c s (r .these .node i)
       at i h = held (r .these .run i) (r .these .node i) (r .these .leads i h)

@@ -2,22 +2,18 @@
 use mathlib.Core.Path.{_≡_, refl, sym, ap, subst, _∙_}
 use mathlib.Core.Bool.{Bool, true, false}
 use mathlib.Core.List.{List}
-use mathlib.Core.Option.{Option, none, some}
-use mathlib.Core.Logic.{_⊎_, inl, inr}
-use Prim.Native.Nat.{ℕ, suc, _+_, _*_, _<_, _≤_}
+use Prim.Native.Nat.{ℕ, _<_}
 use native.Mathlib.Omega.{arith}
 use borrow.Author.Tests.{lt-ltb, le-ltb}
 use lib.Dec.{ltb}
 use Rattle.names.specs.If.{if}
 use Rattle.behaviour.specs.declared.Behaviour.{Behaviour}
-use Rattle.behaviour.specs.declared.Refusal.{Refusal}
 use Rattle.behaviour.specs.Sound.{sound}
 use Rattle.stands.specs.declared.Stand.{Stand}
 use Rattle.stands.specs.declared.ClientState.{ClientState}
 use Rattle.stands.specs.declared.ServerState.{ServerState}
 use Rattle.compliance.specs.SoundStand.{Sound}
 use Rattle.steps.specs.Tests.{isStand, stand-sound}
-use Rattle.verdict.specs.Answer.{BothSound}
 use Rattle.history.specs.Calls.{Call, message, rollback, Calls, opening, _then_}
 use Rattle.history.specs.Demand.{Seen, Demand}
 use Rattle.history.specs.Played.{has, orElse, session}

@@ -20,7 +20,7 @@ use Rattle.behaviour.specs.declared.Behaviour.{Behaviour}
 use Rattle.behaviour.specs.Limits.{mostStates, mostLines, mostBytes}
 use Rattle.behaviour.specs.Sound.{messages}
 use Rattle.aut.specs.declared.Read.{Read}
-use Rattle.aut.specs.Adding.{bare, add, has, check, checkLabel, checkMessage}
+use Rattle.aut.specs.Adding.{bare, add, has, check, checkLabel}
 use Rattle.aut.specs.File.{refuse, accept, markedFinished, finish, next, lines, begin, file}
 use Rattle.promises.specs.Table
 

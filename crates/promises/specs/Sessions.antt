@@ -4,7 +4,7 @@ use mathlib.Core.Bool.{Bool, true, false}
 use mathlib.Core.List.{List}
 use mathlib.Core.Option.{Option, none, some}
 use mathlib.Core.Logic.{_⊎_, inl, inr, _↔_}
-use Prim.Native.Nat.{ℕ, _<_, _≤_}
+use Prim.Native.Nat.{ℕ}
 use native.Mathlib.Omega.{arith}
 use Rattle.names.specs.If.{if}
 use Rattle.behaviour.specs.declared.Behaviour.{Behaviour}
@@ -12,26 +12,26 @@ use Rattle.behaviour.specs.declared.Refusal.{Refusal}
 use Rattle.behaviour.specs.Refusals.{refusal}
 use Rattle.behaviour.specs.Sound.{sound}
 use Rattle.behaviour.specs.SoundLaws.{Sized, parts}
-use Rattle.roundtrip.specs.Theorems.{Given, given-sound}
+use Rattle.roundtrip.specs.Theorems.{Given}
 use Rattle.stands.specs.declared.Stand.{Stand}
 use Rattle.compliance.specs.Compliance.{Compliant}
 use Rattle.compliance.specs.Labels.{Few, few}
 use Rattle.compliance.specs.NoBadRun.{compliant-is, stuck-is}
 use Rattle.compliance.specs.SoundStand.{Sound}
 use Rattle.steps.specs.Tests.{isStand, stand-sound, sound-stand}
-use Rattle.stands.specs.Judgement.{compliant, stuck, Judged}
-use Rattle.verdict.specs.Answer.{BothSound, Unsound}
+use Rattle.stands.specs.Judgement.{Judged}
+use Rattle.verdict.specs.Answer.{BothSound}
 use Rattle.stands.specs.Stands as rules
 use Rattle.history.specs.Calls.{Call, message, rollback}
 use Rattle.session.specs.declared.Session.{Session}
 use Rattle.session.specs.declared.Answer.{Answer}
 use Rattle.session.specs.declared.Answer.the-variants as answer
 use Rattle.session.specs.Answers.{refused, fault, checked, stepped, named, messaged, rolledBack}
-use Rattle.session.specs.Opening.{Begins, NotCompliant, Opens}
+use Rattle.session.specs.Opening.{Opens}
 use Rattle.session.specs.Watched.{answered}
 use Rattle.lines.specs.declared.Kept.{Kept}
 use Rattle.lines.specs.declared.Outcome.the-variants as outcome
-use Rattle.lines.specs.Lent.{keptOf}
+use Rattle.lines.specs.Lent.{keptOf, OpensInto}
 use Rattle.promises.specs.Table
 use Rattle.promises.specs.Table.{InTable}
 use Rattle.promises.specs.Values.{unlike, number, one-unsound, both-sound, sounds}
@@ -95,10 +95,23 @@ call-off g h w (off b o e) = (λ _. e, λ _. refl)
 call-off g h w (step b o q e) = (granted-not, λ i. absurd (let z : _≡_ {A = ℕ} 0 1 = cc (e, i) in omega arith))
 
 -- a call that is refused is refused by the table
-pub answered-refused : (c s : Behaviour) (z : Session) (k : Call) (f : Refusal) → answered c s z k ≡ answer.Refused f → InTable f
-unfolding answered messaged rolledBack
-answered-refused c s z (message n) f e = call-refused Table.message-not-possible (subst (Called c s (z .stand) 16 (rules.said c s (z .stand) (named n))) e (called c s (z .stand) 16 (rules.said c s (z .stand) (named n))))
-answered-refused c s z rollback f e = call-refused Table.rollback-not-possible (subst (Called c s (z .stand) 17 (rules.rollback (z .stand))) e (called c s (z .stand) 17 (rules.rollback (z .stand))))
+module _ (c s : Behaviour) (z : Session) where
+  pub message-refused : (name : List ℕ) (f : Refusal) → messaged c s z name ≡ answer.Refused f → InTable f
+  unfolding messaged
+  message-refused name f e =
+      let o = rules.said c s (z .stand) (named name) in
+      call-refused Table.message-not-possible (subst (Called c s (z .stand) 16 o) e (called c s (z .stand) 16 o))
+
+  pub rollback-refused : (f : Refusal) → rolledBack c s z ≡ answer.Refused f → InTable f
+  unfolding rolledBack
+  rollback-refused f e =
+      let o = rules.rollback (z .stand) in
+      call-refused Table.rollback-not-possible (subst (Called c s (z .stand) 17 o) e (called c s (z .stand) 17 o))
+
+  pub answered-refused : (k : Call) (f : Refusal) → answered c s z k ≡ answer.Refused f → InTable f
+  unfolding answered
+  answered-refused (message name) f e = message-refused name f e
+  answered-refused rollback f e = rollback-refused f e
 
 -- what a lent record holds after a call that is refused
 pub kept-refused : (line y : Session) (a : Answer) (f : Refusal) → keptOf line a ≡ record { session = y; outcome = outcome.Refused f } → (a ≡ answer.Refused f) × (y ≡ line)
@@ -126,3 +139,8 @@ module _ (c s : Behaviour) where
   open-14 (answer.Next z) g h b = (granted-not, λ m. absurd (m (compliant-is c s (few-names c s (b .sounds)) (b .stands) (b .judged))))
   open-14 (answer.Refused f) g h (inl u) = absurd (one-unsound c s (u .which) (g, h))
   open-14 (answer.Refused f) g h (inr n) = (λ _. stuck-is c s (n .steps) (n .judged .0), λ _. ap answer.Refused (n .is))
+
+  pub lent-open : (line after : Session) (f : Refusal) → OpensInto c s line (record { session = after; outcome = outcome.Refused f }) → InTable f × (after ≡ line)
+  lent-open line after f h =
+      let k = kept-refused line after (h .answer) f (sym (h .kept)) in
+      (open-refused f (subst (Opens c s) (k .0) (h .opens)), k .1)

@@ -2,7 +2,7 @@
 use mathlib.Core.Path.{_≡_, refl, sym, ap, subst, _∙_}
 use mathlib.Core.Bool.{Bool, true, false, _&&_}
 use mathlib.Core.List.{List, [], _∷_, _++_}
-use Prim.Native.Nat.{ℕ, zero, suc, _+_, _*_, _/_, _%_, _^_, _<_, _≤_}
+use Prim.Native.Nat.{ℕ, zero, suc, _+_, _*_, _/_, _%_, _^_, _<_}
 use native.Mathlib.Omega.{arith}
 use borrow.Author.Tests.{eqb-true, eq-eqb}
 use lib.Dec.{leb, eqb}
@@ -13,7 +13,7 @@ use Rattle.names.specs.Tests.{both}
 use Rattle.names.specs.Names.{nameBytes, isNameByte, full, padded, isName}
 use Rattle.behaviour.specs.declared.Message.{Message}
 use Rattle.behaviour.specs.declared.Behaviour.{Behaviour}
-use Rattle.behaviour.specs.Sound.{sound, messages, between, allBetween, blank, allBlank}
+use Rattle.behaviour.specs.Sound.{messages, between, allBetween, blank, allBlank}
 use Rattle.behaviour.specs.SoundLaws.{Sized, Parts, parts, between-parts}
 use Rattle.aut.specs.declared.Read.{Read}
 use Rattle.aut.specs.File.{accept, file}

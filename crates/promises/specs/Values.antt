@@ -1,5 +1,5 @@
 -- Calls on values: which refusal each gives, exactly when, and that it leaves lent memory as it was.
-use mathlib.Core.Path.{_≡_, refl, sym, ap, subst, _∙_}
+use mathlib.Core.Path.{_≡_, refl, sym, ap, _∙_}
 use mathlib.Core.Bool.{Bool, true, false, _&&_}
 use mathlib.Core.List.{List, _++_}
 use mathlib.Core.Logic.{_⊎_, inl, inr, _↔_}
@@ -23,12 +23,12 @@ use Rattle.stands.specs.Judgement.{compliant, stuck, Judged}
 use Rattle.compliance.specs.OneJudgement.{judged-unique}
 use Rattle.verdict.specs.declared.Verdict.{Verdict}
 use Rattle.verdict.specs.declared.Verdict.the-variants as verdict
-use Rattle.verdict.specs.Answer.{BothSound, SaysCompliant, SaysStuck, SaysRefused, Unsound, TooLong, Says}
+use Rattle.verdict.specs.Answer.{BothSound, Unsound, TooLong, Says}
 use Rattle.report.specs.declared.Reported.{Reported}
 use Rattle.report.specs.declared.Reported.the-variants as reported
 use Rattle.report.specs.Output.{Prints}
 use Rattle.report.specs.OneOutput.{one-output}
-use Rattle.report.specs.Reports.{answer, left, Tells, Reports}
+use Rattle.report.specs.Reports.{left, Tells, Reports}
 use Rattle.promises.specs.Table.{InTable, no-file-gives-it, longer-than-lent}
 
 pub unlike : {A : Type 0} → true ≡ false → A

@@ -1,25 +1,22 @@
 -- The verdict on two values that files give: compliant, or turned down with the shortest run to a bad stand.
-use mathlib.Core.Path.{_≡_, refl, sym, ap, ap₂, subst, _∙_}
+use mathlib.Core.Path.{_≡_, refl, sym, ap, ap₂, _∙_}
 use mathlib.Core.List.{List, _++_}
-use mathlib.Core.Option.{some}
 use mathlib.Core.Logic.{_⊎_, inl, inr, _↔_}
 use Prim.Native.Nat.{ℕ, _<_, _≤_}
 use native.Mathlib.Omega.{arith}
 use lib.ListN.{length, drop}
 use Rattle.behaviour.specs.declared.Behaviour.{Behaviour}
-use Rattle.behaviour.specs.declared.Refusal.{Refusal}
 use Rattle.behaviour.specs.Refusals.{refusal}
-use Rattle.runs.specs.System.{ToBad, Reachable, Earlier, after, IsVerdict}
-use Rattle.stands.specs.declared.Stand.{Stand}
+use Rattle.runs.specs.System.{ToBad, Reachable, Earlier, IsVerdict}
 use Rattle.stands.specs.Stands.{cause, pair}
-use Rattle.stands.specs.Judgement.{Judgement, compliant, stuck, Judged}
+use Rattle.stands.specs.Judgement.{compliant, stuck, Judged}
 use Rattle.compliance.specs.Compliance.{Compliant}
 use Rattle.compliance.specs.NoBadRun.{compliant-is, stuck-is}
 use Rattle.compliance.specs.OneJudgement.{judged-unique}
 use Rattle.roundtrip.specs.Theorems.{Given}
 use Rattle.verdict.specs.declared.Verdict.{Verdict}
 use Rattle.verdict.specs.declared.Verdict.the-variants as verdict
-use Rattle.verdict.specs.Answer.{BothSound, SaysCompliant, SaysStuck, SaysRefused, Unsound, TooLong, Says}
+use Rattle.verdict.specs.Answer.{BothSound, Unsound, TooLong, Says}
 use Rattle.promises.specs.Values.{one-unsound}
 use Rattle.promises.specs.Sessions.{few-names}
 
