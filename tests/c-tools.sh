@@ -25,6 +25,7 @@ export CC RUNNER
 # library ROOT: LIBRARY is set to the static library, proved first; one given in the environment is taken as it is.
 library() {
     [ -n "${LIBRARY:-}" ] && return
+    mkdir -p "$1/target/log"
     (cd "$1" && rt staticlib host >"target/log/staticlib.out" 2>&1) || { tail -n 5 "$1/target/log/staticlib.out" >&2; return 1; }
     LIBRARY=$(cd "$1" && pwd)/target/staticlib/libhost.a
     export LIBRARY

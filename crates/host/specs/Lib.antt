@@ -1,4 +1,5 @@
 pub mod Numbers
 pub mod Calls
-pub mod OneVerdict
 pub mod OneAnswer
+pub mod Parts
+pub mod Sessions

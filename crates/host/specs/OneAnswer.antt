@@ -2,12 +2,12 @@
 use mathlib.Core.Path.{_≡_, sym, ap, _∙_}
 use mathlib.Core.List.{List}
 use Prim.Native.Nat.{ℕ}
+use Rattle.verdict.specs.OneAnswer.{one-verdict}
 use Rattle.session.specs.OneAnswer.{opens-one}
 use Rattle.report.specs.OneOutput.{one-report}
 use Rattle.packing.specs.Value.{unpacked}
 use Rattle.host.specs.Numbers.{verdictNumber, reportedNumber, sessionNumber}
 use Rattle.host.specs.Calls.{Reads, Writes, Judges, Opens, Messages, RollsBack, Texts}
-use Rattle.host.specs.OneVerdict.{one-verdict}
 
 pub one-read : (text out : List ℕ) (r q : ℕ) (d e : List ℕ) → Reads text out r d → Reads text out q e → (r ≡ q) × (d ≡ e)
 one-read text out r q d e a b = (a .says ∙ sym (b .says), a .leaves ∙ sym (b .leaves))

@@ -3,14 +3,18 @@ use mathlib.Core.Path.{_≡_, refl, sym, ap, ap₂, _∙_}
 use mathlib.Core.List.{List, [], _∷_, _++_, append-assoc, append-nil}
 use Prim.Native.Nat.{ℕ, zero, suc, _+_, _*_, _/_, _%_, _^_, _<_, _≤_}
 use native.Mathlib.Omega.{arith}
-use borrow.Author.Tests.{eq-eqb}
+use mathlib.Core.Bool.{Bool, true, false}
+use borrow.Author.Tests.{eq-eqb, eqb-true}
+use lib.Dec.{eqb}
 use lib.ListN.{length, getD, take, drop, length-append, length-drop, take-append-drop}
-use lib.Seq.{take-at, drop-at, drop-drop}
+use lib.Seq.{take-at, drop-at, drop-drop, length-take-le}
+use Rattle.names.specs.If.{if}
 use Rattle.names.specs.Names.{nameBytes}
 use Rattle.behaviour.specs.Limits.{mostStates, mostLines}
 use Rattle.behaviour.specs.declared.Message.{Message}
 use Rattle.behaviour.specs.declared.Behaviour.{Behaviour}
 use Rattle.behaviour.specs.SoundLaws.{Sized}
+use Rattle.aut.specs.Adding.{bare}
 use Rattle.packing.specs.Value.{messageBytes, valueBytes, bytesOf, numberOf, packedMessage, packedMessages, unpackedMessage, unpackedMessages, packed, unpacked}
 
 -- every name is a number of eight bytes, as those of the code are
@@ -143,3 +147,27 @@ value-there (x ∷ y ∷ t) l b =
     let f : take mostStates (drop mostStates t) ++ drop (2 * mostStates) t ≡ drop mostStates t =
     rw (← drop-drop mostStates mostStates t) (take-append-drop mostStates (drop mostStates t)) in
     rw (eq-eqb (length (x ∷ y ∷ t)) valueBytes l, e, f) (ap (λ (r : List ℕ). x ∷ y ∷ r) (take-append-drop mostStates t))
+
+-- what is unpacked has the lengths of the code's arrays, whatever the bytes
+messages-many : (k : ℕ) (s : List ℕ) → length (unpackedMessages k s) ≡ k
+unfolding unpackedMessages
+messages-many zero s = refl
+messages-many (suc k) s = ap suc (messages-many k (drop messageBytes s))
+
+row-long : (k : ℕ) (s : List ℕ) → length s ≡ valueBytes → k + mostStates ≤ valueBytes → length (take mostStates (drop k s)) ≡ mostStates
+row-long k s l h = length-take-le mostStates (drop k s) (rw length-drop (omega arith))
+
+either-sized : (t : Bool) (a b : Behaviour) → (t ≡ true → Sized a) → Sized b → Sized (if t a b)
+either-sized true a b f g = f refl
+either-sized false a b f g = g
+
+pub unpacked-sized : (s : List ℕ) → Sized (unpacked s)
+unfolding unpacked
+unpacked-sized s =
+    either-sized (eqb (length s) valueBytes) _ (bare 0)
+    (λ e. record {
+      marks = row-long 2 s (eqb-true (length s) valueBytes e) (omega arith);
+      signs = row-long (2 + mostStates) s (eqb-true (length s) valueBytes e) (omega arith);
+      messages = messages-many mostLines (drop (2 + 2 * mostStates) s);
+    })
+    (record { marks = refl; signs = refl; messages = refl })

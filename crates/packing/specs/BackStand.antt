@@ -53,6 +53,11 @@ server-small : (g : ServerPoint) → ServerBelow g → serverPointNumber g < 256
 server-small server.Nowhere h = omega arith
 server-small (server.To y) h = omega (arith, h y refl)
 
+-- the number is one of 32 bits
+pub packed-below : (p : Stand) → Small p → packedStand p < 4294967296
+unfolding packedStand
+packed-below p b = omega (arith, b .client, b .server, client-small (p .clientpoint) (b .clientpoint), server-small (p .serverpoint) (b .serverpoint))
+
 -- what is packed unpacks as itself
 pub stand-back : (p : Stand) → Small p → unpackedStand (packedStand p) ≡ p
 unfolding packedStand unpackedStand

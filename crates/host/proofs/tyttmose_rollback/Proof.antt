@@ -1,5 +1,7 @@
 -- `host::tyttmose_rollback` meets its contract.
+use mathlib.Core.Path.{ap, _∙_}
 use borrow.Author.Needs.{needs}
+use Rattle.host.specs.Numbers.{sessionNumber}
 use Rattle.host.proofs.tyttmose_rollback.Statement.{statement}
 use Rattle.host.proofs.tyttmose_rollback.Tie as tie
 
@@ -20,7 +22,7 @@ session-number-requires c κs = search needs
 
 returns : tie.Need-returns
 returns c =
-    rw (← c .before .before .before .before .session-of .ensures, ← c .before .before .before .unpack .ensures, ← c .before .before .unpack2 .ensures, ← c .before .rollback .ensures) (c .session-number .ensures)
+    rw (← c .before .before .before .before .session-of .ensures, ← c .before .before .before .unpack .ensures, ← c .before .before .unpack2 .ensures) (c .session-number .ensures ∙ ap sessionNumber (c .before .rollback .ensures))
 
 pub tyttmose-rollback-spec : {M : Type 1} → statement M
 tyttmose-rollback-spec =
