@@ -7,15 +7,12 @@ use native.Mathlib.Omega.{arith}
 use lib.Dec.{eqb}
 use lib.ListN.{length, getD, length-append}
 use Rattle.names.specs.If.{if}
-use Rattle.names.specs.Names.{nameBytes}
 use Rattle.behaviour.specs.declared.Behaviour.{Behaviour}
 use Rattle.stands.specs.Cases.{bytes}
-use Rattle.tokens.specs.declared.Label.the-variants.{Take, Send}
-use Rattle.writer.specs.Spelling.{decimal, labelText, opening, closing, headText}
-use Rattle.writer.specs.Text.{messageLabel}
-use Rattle.writer.specs.Lengths.{decimal-length, name-length}
-use Rattle.writer.specs.Putting.{Short}
-use Rattle.report.specs.RunText.{rbk, stepLine}
+use Rattle.text.specs.Spelling.{labelText, messageLabel, headText}
+use Rattle.text.specs.Lengths.{decimal-length, label-length, labelled-length, head-length}
+use Rattle.text.specs.Putting.{Short}
+use Rattle.report.specs.RunText.{rbk}
 use Rattle.report.specs.Output.{wordLine, compliantText}
 use Rattle.report.specs.Followed.{stepLabel, nextState, nextHome, seenLine, followed, stuckText}
 
@@ -26,17 +23,12 @@ pub compliant-length : (n : ℕ) → length (compliantText n) ≤ 20
 unfolding bytes
 compliant-length n = let f = decimal-length 4 n in simp length-append (omega arith)
 
-label-length : (b g n : ℕ) → length (stepLabel b g n) ≤ 9
-label-length b g n = go (eqb b 255) (eqb g 1)
+step-length : (b g n : ℕ) → length (stepLabel b g n) ≤ 9
+step-length b g n = go (eqb b 255)
   where
-    go : (t u : Bool) → length (if t rbk (labelText (if u (Take n) (Send n)))) ≤ 9
-    go true u = omega arith
-    go false true = omega (arith, name-length nameBytes n)
-    go false false = omega (arith, name-length nameBytes n)
-
-line-length : (k : ℕ) (w : List ℕ) → length (stepLine k w) ≤ length w + 17
-unfolding opening closing
-line-length k w = let f = decimal-length 4 k in let g = decimal-length 4 (k + 1) in simp length-append (omega arith)
+    go : (t : Bool) → length (if t rbk (labelText (messageLabel g n))) ≤ 9
+    go true = omega arith
+    go false = label-length (messageLabel g n)
 
 steps-length : (c : Behaviour) (names : List ℕ) (k x home : ℕ) (r : List ℕ) → length (followed c names k x home r) ≤ length r * 26
 unfolding followed
@@ -45,14 +37,10 @@ steps-length c names k x home (b ∷ r) =
     rw (length-append (seenLine c names k x b))
     (omega (
       arith,
-      line-length k (stepLabel b (getD (c .signs) x 0) (getD names b 0)),
-      label-length b (getD (c .signs) x 0) (getD names b 0),
+      labelled-length k (stepLabel b (getD (c .signs) x 0) (getD names b 0)) (k + 1),
+      step-length b (getD (c .signs) x 0) (getD names b 0),
       steps-length c names (k + 1) (nextState c b (getD names b 0) x home) (nextHome c b x home) r,
     ))
-
-head-length : (t s : ℕ) → length (headText t s) ≤ 20
-unfolding headText
-head-length t s = let f = decimal-length 4 t in let g = decimal-length 4 s in simp length-append (omega arith)
 
 pub stuck-length : (c : Behaviour) (names : List ℕ) (e : ℕ) (r : List ℕ) → length (stuckText c names e r) ≤ length r * 26 + 40
 unfolding stuckText

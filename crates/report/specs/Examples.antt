@@ -16,7 +16,7 @@ use Rattle.stands.specs.Computing.{judge, judge-ok, full, causeOf, equal, clien
 use Rattle.stands.specs.Cases.{bytes}
 use Rattle.runs.specs.System as runs
 use Rattle.runs.specs.Compute.{computed, said, nodes, labels, led, found, known, first, say}
-use Rattle.writer.specs.Spelling.{decimalOf, opening, closing, headText}
+use Rattle.text.specs.Spelling.{decimalOf, opening, closing, headText}
 use Rattle.report.specs.RunText.{stepLines, runText}
 use Rattle.report.specs.Output.{Prints, client-refused, server-refused, both-judged, judgedText}
 

@@ -7,8 +7,7 @@ use lib.ListN.{length, getD}
 use Rattle.names.specs.If.{if}
 use Rattle.behaviour.specs.declared.Behaviour.{Behaviour}
 use Rattle.stands.specs.Stands.{target, marked, rollbackByte}
-use Rattle.writer.specs.Spelling.{labelText, headText}
-use Rattle.writer.specs.Text.{messageLabel}
+use Rattle.text.specs.Spelling.{labelText, messageLabel, headText}
 use Rattle.report.specs.RunText.{rbk, stepLine}
 use Rattle.report.specs.Output.{wordLine}
 

@@ -8,7 +8,7 @@ use Rattle.behaviour.specs.declared.Refusal.{Refusal}
 use Rattle.aut.specs.File.{file}
 use Rattle.stands.specs.Judgement.{Judgement, compliant, stuck, Judged}
 use Rattle.stands.specs.Cases.{bytes}
-use Rattle.writer.specs.Spelling.{decimal}
+use Rattle.text.specs.Spelling.{decimal}
 use Rattle.report.specs.RunText.{runText}
 
 -- a word and two numbers "with one space between them", ended by LF

@@ -8,8 +8,7 @@ use Rattle.names.specs.If.{if}
 use Rattle.behaviour.specs.declared.Behaviour.{Behaviour}
 use Rattle.stands.specs.declared.Stand.{Stand}
 use Rattle.stands.specs.Stands.{start, alphabet, nth, rollbackByte, step}
-use Rattle.writer.specs.Spelling.{labelText, opening, closing, headText}
-use Rattle.writer.specs.Text.{messageLabel}
+use Rattle.text.specs.Spelling.{labelText, messageLabel, opening, closing, headText}
 
 -- the fixed string `rbk`
 abbrev pub rbk : List ℕ

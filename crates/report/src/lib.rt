@@ -2,7 +2,6 @@
 use behaviour::Behaviour;
 use behaviour::Messages;
 use behaviour::Refusal;
-use tokens::Label;
 use tokens::Line;
 use verdict::Verdict;
 ghost use mathlib.Core.Path.{_≡_};
@@ -10,10 +9,9 @@ ghost use mathlib.Core.List.{_∷_, []};
 ghost use Prim.Native.Nat.{_≤_, _<_, _+_};
 ghost use lib.ListN.{length, getD, take};
 ghost use Rattle.stands.specs.Stands.{alphabet};
-ghost use Rattle.writer.specs.Spelling.{decimal, tens, labelText};
-ghost use Rattle.writer.specs.Text.{messageLabel};
+ghost use Rattle.text.specs.Spelling.{decimal, tens, labelText, messageLabel};
+ghost use Rattle.text.specs.Putting.{Short, Put};
 ghost use Rattle.writer.specs.Written.{tooLong};
-ghost use Rattle.writer.specs.Putting.{Short, Put};
 ghost use Rattle.ranks.specs.Rising.{Rising};
 ghost use Rattle.report.specs.declared.Reported.the-variants.{Refused};
 ghost use Rattle.report.specs.RunText.{rbk, stepLine};
@@ -38,8 +36,8 @@ fn put_number(out: &mut [u8], at: usize, n: usize) -> usize
     requires { ⌜ Short at (32 ∷ decimal n) ⌝ }
     ensures { λ r. ⌜ Put (now (out .entry)) at (32 ∷ decimal n) r (now (out .exit)) ⌝ }
 {
-    let a = writer::put(out, at, b' ');
-    writer::put_decimal(out, a, 4, n)
+    let a = text::put(out, at, b' ');
+    text::put_decimal(out, a, 4, n)
 }
 
 // A word and one number.
@@ -48,9 +46,9 @@ fn put_compliant(out: &mut [u8], at: usize, n: usize) -> usize
     requires { ⌜ Short at (compliantText n) ⌝ }
     ensures { λ r. ⌜ Put (now (out .entry)) at (compliantText n) r (now (out .exit)) ⌝ }
 {
-    let a = writer::put_bytes(out, at, b"compliant");
+    let a = text::put_bytes(out, at, b"compliant");
     let b = put_number(out, a, n);
-    writer::put(out, b, b'\n')
+    text::put(out, b, b'\n')
 }
 
 // A word and two numbers.
@@ -60,10 +58,10 @@ fn put_words(out: &mut [u8], at: usize, word: &[u8], m: usize, n: usize) -> usiz
     requires { ⌜ Short at (wordLine (now word) m n) ⌝ }
     ensures { λ r. ⌜ Put (now (out .entry)) at (wordLine (now (word .entry)) m n) r (now (out .exit)) ⌝ }
 {
-    let a = writer::put_bytes(out, at, word);
+    let a = text::put_bytes(out, at, word);
     let b = put_number(out, a, m);
     let c = put_number(out, b, n);
-    writer::put(out, c, b'\n')
+    text::put(out, c, b'\n')
 }
 
 fn put_rollback(out: &mut [u8], at: usize, k: usize) -> usize
@@ -71,19 +69,9 @@ fn put_rollback(out: &mut [u8], at: usize, k: usize) -> usize
     requires { ⌜ Short at (stepLine k rbk) ⌝ }
     ensures { λ r. ⌜ Put (now (out .entry)) at (stepLine k rbk) r (now (out .exit)) ⌝ }
 {
-    let a = writer::put_opening(out, at, k);
-    let b = writer::put_bytes(out, a, b"rbk");
-    writer::put_closing(out, b, k + 1)
-}
-
-// How the client sees a message at a state of that sign.
-fn label_of(sign: u8, n: u64) -> Label
-    ensures { λ r. ⌜ r ≡ messageLabel sign n ⌝ }
-{
-    if sign == 1 {
-        return Label::Take(n);
-    }
-    Label::Send(n)
+    let a = text::put_opening(out, at, k);
+    let b = text::put_bytes(out, a, b"rbk");
+    text::put_closing(out, b, k + 1)
 }
 
 fn name_at(names: &[u64], b: u8) -> u64
@@ -101,8 +89,8 @@ fn put_message(out: &mut [u8], at: usize, k: usize, sign: u8, n: u64) -> usize
     requires { ⌜ Short at (stepLine k (labelText (messageLabel sign n))) ⌝ }
     ensures { λ r. ⌜ Put (now (out .entry)) at (stepLine k (labelText (messageLabel sign n))) r (now (out .exit)) ⌝ }
 {
-    let label = label_of(sign, n);
-    writer::put_line(
+    let label = text::label_of(sign, n);
+    text::put_line(
         out,
         at,
         Line {
@@ -187,7 +175,7 @@ fn put_stuck(
 {
     let n = run.len();
     let a = put_words(out, at, b"stuck", cause, n);
-    let b = writer::put_head(out, a, n, n + 1);
+    let b = text::put_head(out, a, n, n + 1);
     put_steps(out, b, c, names, run)
 }
 

@@ -13,7 +13,7 @@ use Rattle.behaviour.specs.Limits.{mostStates, mostLines, mostBytes}
 use Rattle.aut.specs.declared.Read.{Read}
 use Rattle.aut.specs.Adding.{bare, add, check}
 use Rattle.aut.specs.File.{refuse, finish, lines, file}
-use Rattle.writer.specs.Spelling.{headText}
+use Rattle.text.specs.Spelling.{headText}
 use Rattle.writer.specs.Text.{linesText}
 use Rattle.roundtrip.specs.Lines.{Allowed, line-back, head-back}
 

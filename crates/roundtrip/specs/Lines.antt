@@ -14,7 +14,7 @@ use Rattle.tokens.specs.Lines.{line, head}
 use Rattle.tokens.specs.declared.Label.{Label}
 use Rattle.tokens.specs.declared.Label.the-variants.{Mark, Take, Send, Other}
 use Rattle.tokens.specs.declared.Line.{Line}
-use Rattle.writer.specs.Spelling.{decimalOf, decimal, labelText, opening, closing, lineText, headText}
+use Rattle.text.specs.Spelling.{decimalOf, decimal, labelText, opening, closing, lineText, headText}
 use Rattle.behaviour.specs.SoundLaws.{no, both}
 use Rattle.roundtrip.specs.Names.{not-zero, name-back}
 use Rattle.roundtrip.specs.Numbers.{other, number-back}

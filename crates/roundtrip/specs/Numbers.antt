@@ -10,7 +10,7 @@ use lib.Dec.{ltb}
 use Rattle.names.specs.If.{if}
 use Rattle.tokens.specs.Parse.{got}
 use Rattle.tokens.specs.Tokens.{digits, number, isDigit}
-use Rattle.writer.specs.Spelling.{decimalOf, decimal, tens}
+use Rattle.text.specs.Spelling.{decimalOf, decimal, tens}
 
 -- the next byte is a digit d
 digit-more : (j v d : ℕ) (r : List ℕ) → 0 < j → d < 10 → digits j v ((48 + d) ∷ r) ≡ digits (j - 1) (v * 10 + d) r

@@ -20,8 +20,8 @@ use Rattle.behaviour.specs.Sound.{messages, total}
 use Rattle.aut.specs.declared.Read.{Read}
 use Rattle.aut.specs.Adding.{unused, bare}
 use Rattle.aut.specs.File.{markedFinished, finish, accept, file}
-use Rattle.writer.specs.Spelling.{headText}
-use Rattle.writer.specs.Text.{messageLabel, messageLine, markLine, messageLines, afterState, linesFrom, linesText, lineCount, text}
+use Rattle.text.specs.Spelling.{messageLabel, headText}
+use Rattle.writer.specs.Text.{messageLine, markLine, messageLines, afterState, linesFrom, linesText, lineCount, text}
 use Rattle.writer.specs.Lengths.{parts-length, text-few}
 use Rattle.roundtrip.specs.Lines.{Allowed}
 use Rattle.roundtrip.specs.AddAll.{addAll, Each, none, more, file-added}

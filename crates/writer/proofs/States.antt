@@ -6,11 +6,11 @@ use native.Mathlib.Omega.{arith}
 use borrow.Author.Tests.{eq-eqb, ne-eqb}
 use lib.ListN.{length, getD, take, drop, drop-of-length-le}
 use Rattle.names.specs.Places.{here}
-use Rattle.tokens.specs.declared.Label.the-variants.{Mark, Take, Send}
+use Rattle.tokens.specs.declared.Label.the-variants.{Mark}
 use Rattle.tokens.specs.declared.Line.{Line}
 use Rattle.behaviour.specs.declared.Message.{Message}
 use Rattle.behaviour.specs.Pick.{nil, next-used}
-use Rattle.writer.specs.Spelling.{lineText}
+use Rattle.text.specs.Spelling.{lineText}
 use Rattle.writer.specs.Text.{messageLine, markLine, messageLines, afterState, linesFrom, linesText}
 
 texts-append : (a b : List Line) → linesText (a ++ b) ≡ linesText a ++ linesText b
@@ -27,14 +27,6 @@ module _ (k m : ℕ) where
   pub mark-some : m ≡ 1 → linesText (markLine k m) ≡ lineText (record { from = k; label = Mark; to = k })
   unfolding linesText
   mark-some h = rw (eq-eqb m 1 h, append-nil)
-
--- a message's line, by the sign
-module _ (g n f t : ℕ) (m : Message) (x : f ≡ m .from) (y : t ≡ m .to) (z : n ≡ m .name) where
-  pub line-takes : g ≡ 1 → lineText (messageLine g m) ≡ lineText (record { from = f; label = Take n; to = t })
-  line-takes h = rw (eq-eqb g 1 h, x, y, z)
-
-  pub line-sends : (g ≡ 1 → ⊥) → lineText (messageLine g m) ≡ lineText (record { from = f; label = Send n; to = t })
-  line-sends h = rw (ne-eqb g 1 h, x, y, z)
 
 -- the messages from i on, of the n that are used
 module _ (a : List Message) (n k g i : ℕ) where

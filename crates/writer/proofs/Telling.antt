@@ -7,10 +7,10 @@ use lib.ListN.{length, getD, take, drop}
 use Rattle.behaviour.specs.declared.Message.{Message}
 use Rattle.behaviour.specs.Limits.{mostStates}
 use Rattle.behaviour.specs.Pick.{nil}
-use Rattle.writer.specs.Spelling.{lineText}
+use Rattle.text.specs.Spelling.{lineText}
 use Rattle.writer.specs.Text.{messageLine, markLine, messageLines, afterState, linesText}
-use Rattle.writer.specs.Putting.{Short, Put}
-use Rattle.writer.proofs.Onward.{Onward, onward-start, onward-short, onward-step, onward-end}
+use Rattle.text.specs.Putting.{Short, Put}
+use Rattle.text.proofs.Onward.{Onward, onward-start, onward-short, onward-step, onward-end}
 use Rattle.writer.proofs.States.{message-here, after-here, message-none, after-none, message-end, after-end, ahead, state-here, state-end}
 
 -- the messages from i on, of the n that are used

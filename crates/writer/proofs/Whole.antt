@@ -7,18 +7,18 @@ use native.Mathlib.Omega.{arith}
 use borrow.Author.Tests.{le-leb, lt-leb}
 use lib.Dec.{leb}
 use lib.ListN.{length, take}
-use lib.Seq.{sets-eq}
 use Rattle.behaviour.specs.declared.Behaviour.{Behaviour}
 use Rattle.behaviour.specs.Limits.{mostLines}
 use Rattle.behaviour.specs.Sound.{total, sound}
 use Rattle.behaviour.specs.Refusals.{refusal}
 use Rattle.behaviour.specs.SoundLaws.{parts}
 use Rattle.writer.specs.declared.Written.the-variants.{Bytes, Refused}
-use Rattle.writer.specs.Spelling.{headText}
+use Rattle.text.specs.Spelling.{headText}
 use Rattle.writer.specs.Text.{linesFrom, linesText, lineCount, text}
 use Rattle.writer.specs.Lengths.{text-few}
 use Rattle.writer.specs.Written.{written, left}
-use Rattle.writer.specs.Putting.{Short, Put}
+use Rattle.text.specs.Putting.{Short, Put}
+use Rattle.text.proofs.Puts.{front-bytes}
 
 pub text-short : (b : Behaviour) → lineCount b ≤ mostLines → Short 0 (text b)
 text-short b h = record { ends = omega (arith, text-few b h) }
@@ -44,5 +44,4 @@ module _ (b : Behaviour) (out : List ℕ) where
     pub write-done : {r : ℕ} {o : List ℕ} → n ≤ length out → Put out 0 (text b) r o → (Bytes n ≡ written b out) × (o ≡ left b out)
     write-done h p =
         let f : leb (length (text b)) (length out) ≡ true = le-leb (length (text b)) (length out) (omega arith) in
-        let z : 0 + length (text b) ≡ length (text b) = omega arith in
-        (rw (← e, f, l), p .bytes ∙ sets-eq (text b) out 0 (omega arith) ∙ rw (z, ← e, f))
+        (rw (← e, f, l), front-bytes p (omega arith) ∙ rw (← e, f))

@@ -2,60 +2,24 @@
 use mathlib.Core.Path.{_≡_, refl}
 use mathlib.Core.List.{List, [], _∷_, _++_}
 use mathlib.Core.Bool.{Bool, true, false}
-use Prim.Native.Nat.{ℕ, zero, suc, _+_, _*_, _/_, _%_, _≤_}
+use Prim.Native.Nat.{ℕ, zero, suc, _+_, _*_, _≤_}
 use native.Mathlib.Omega.{arith}
-use lib.Dec.{eqb, ltb}
+use lib.Dec.{eqb}
 use lib.ListN.{length, take, length-append}
 use Rattle.names.specs.If.{if}
-use Rattle.names.specs.Names.{nameBytes, nameText}
-use Rattle.tokens.specs.declared.Label.{Label}
-use Rattle.tokens.specs.declared.Label.the-variants.{Mark, Take, Send, Other}
+use Rattle.tokens.specs.declared.Label.the-variants.{Mark}
 use Rattle.tokens.specs.declared.Line.{Line}
 use Rattle.behaviour.specs.declared.Message.{Message}
 use Rattle.behaviour.specs.declared.Behaviour.{Behaviour}
 use Rattle.behaviour.specs.Limits.{mostLines, mostBytes}
 use Rattle.behaviour.specs.Sound.{messages, total}
-use Rattle.writer.specs.Spelling.{decimalOf, labelText, opening, closing, lineText, headText}
+use Rattle.text.specs.Lengths.{line-length, head-length}
 use Rattle.writer.specs.Text.{messageLine, messageLines, afterState, linesFrom, linesOf, linesText, lineCount, text}
-
-pub decimal-length : (k n : ℕ) → length (decimalOf k n) ≤ k + 1
-unfolding decimalOf
-decimal-length zero n = omega arith
-decimal-length (suc k) n = go (ltb n 10) (decimal-length k (n / 10))
-  where
-    go : (t : Bool) → length (decimalOf k (n / 10)) ≤ k + 1 → length (if t ((48 + n) ∷ []) (decimalOf k (n / 10) ++ ((48 + n % 10) ∷ []))) ≤ suc k + 1
-    go true h = omega arith
-    go false h = rw length-append (omega arith)
-
-pub name-length : (k n : ℕ) → length (nameText k n) ≤ k
-unfolding nameText
-name-length zero n = omega arith
-name-length (suc k) n = go (eqb (n % 256) 0) (name-length k (n / 256))
-  where
-    go : (t : Bool) → length (nameText k (n / 256)) ≤ k → length (if t (nameText k (n / 256)) (nameText k (n / 256) ++ ((n % 256) ∷ []))) ≤ suc k
-    go true h = omega arith
-    go false h = rw length-append (omega arith)
-
-label-length : (l : Label) → length (labelText l) ≤ 9
-label-length Mark = omega arith
-label-length (Take n) = omega (arith, name-length nameBytes n)
-label-length (Send n) = omega (arith, name-length nameBytes n)
-label-length Other = omega arith
-
-line-length : (l : Line) → length (lineText l) ≤ 26
-unfolding lineText opening closing
-line-length l =
-    let f = decimal-length 4 (l .from) in let g = decimal-length 4 (l .to) in let n = label-length (l .label) in
-    simp length-append (omega arith)
 
 lines-length : (ls : List Line) → length (linesText ls) ≤ length ls * 26
 unfolding linesText
 lines-length [] = omega arith
 lines-length (l ∷ ls) = rw length-append (omega (arith, line-length l, lines-length ls))
-
-head-length : (t s : ℕ) → length (headText t s) ≤ 40
-unfolding headText
-head-length t s = let f = decimal-length 4 t in let g = decimal-length 4 s in simp length-append (omega arith)
 
 -- a state's messages and those after them are all
 pub parts-length : (k g : ℕ) (l : List Message) → length (messageLines k g l) + length (afterState k l) ≡ length l

@@ -1,5 +1,3 @@
-pub mod Spelling
 pub mod Text
 pub mod Written
-pub mod Putting
 pub mod Lengths

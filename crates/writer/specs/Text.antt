@@ -3,18 +3,14 @@ use mathlib.Core.List.{List, [], _∷_, _++_}
 use Prim.Native.Nat.{ℕ, _+_}
 use lib.Dec.{eqb}
 use Rattle.names.specs.If.{if}
-use Rattle.tokens.specs.declared.Label.{Label}
-use Rattle.tokens.specs.declared.Label.the-variants.{Mark, Take, Send}
+use Rattle.tokens.specs.declared.Label.the-variants.{Mark}
 use Rattle.tokens.specs.declared.Line.{Line}
 use Rattle.behaviour.specs.declared.Message.{Message}
 use Rattle.behaviour.specs.declared.Behaviour.{Behaviour}
 use Rattle.behaviour.specs.Sound.{messages, total}
-use Rattle.writer.specs.Spelling.{lineText, headText}
+use Rattle.text.specs.Spelling.{messageLabel, lineText, headText}
 
--- a message at a state that takes (sign 1) or sends (sign 2)
-abbrev pub messageLabel : ℕ → ℕ → Label
-messageLabel g n = if (eqb g 1) (Take n) (Send n)
-
+-- the line of a message at a state of the sign g
 abbrev pub messageLine : ℕ → Message → Line
 messageLine g m = record { from = m .from; label = messageLabel g (m .name); to = m .to }
 

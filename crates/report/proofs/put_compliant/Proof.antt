@@ -1,8 +1,8 @@
 -- `report::put_compliant` meets its contract.
 use mathlib.Core.List.{List, [], _∷_, _++_}
-use Rattle.writer.specs.Spelling.{decimal, tens, opening, closing}
+use Rattle.text.specs.Spelling.{decimal, tens, opening, closing}
 use Rattle.stands.specs.Cases.{bytes}
-use Rattle.writer.proofs.Puts.{put-then, short-first, short-next}
+use Rattle.text.proofs.Puts.{put-then, short-first, short-next}
 use borrow.Author.Needs.{needs}
 use Rattle.report.proofs.put_compliant.Statement.{statement}
 use Rattle.report.proofs.put_compliant.Tie as tie

@@ -1,6 +1,6 @@
 -- `report::put_message` meets its contract.
 use native.Mathlib.Omega.{arith}
-use Rattle.writer.specs.Spelling.{tens, lineText}
+use Rattle.text.specs.Spelling.{tens, lineText}
 use borrow.Author.Needs.{needs}
 use Rattle.report.proofs.put_message.Statement.{statement}
 use Rattle.report.proofs.put_message.Tie as tie

@@ -1,5 +1,5 @@
 -- `report::put_number` meets its contract.
-use Rattle.writer.proofs.Puts.{put-then, short-first, short-next}
+use Rattle.text.proofs.Puts.{put-then, short-first, short-next}
 use borrow.Author.Needs.{needs}
 use Rattle.report.proofs.put_number.Statement.{statement}
 use Rattle.report.proofs.put_number.Tie as tie

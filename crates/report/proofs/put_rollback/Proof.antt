@@ -2,9 +2,9 @@
 use Prim.Native.Nat.{_+_}
 use mathlib.Core.List.{List, [], _∷_, _++_}
 use native.Mathlib.Omega.{arith}
-use Rattle.writer.specs.Spelling.{decimal, tens, opening, closing}
+use Rattle.text.specs.Spelling.{decimal, tens, opening, closing}
 use Rattle.report.specs.RunText.{rbk}
-use Rattle.writer.proofs.Puts.{put-then, short-first, short-next}
+use Rattle.text.proofs.Puts.{put-then, short-first, short-next}
 use borrow.Author.Needs.{needs}
 use Rattle.report.proofs.put_rollback.Statement.{statement}
 use Rattle.report.proofs.put_rollback.Tie as tie

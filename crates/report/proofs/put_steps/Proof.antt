@@ -5,19 +5,19 @@ use borrow.Author.Needs.{needs}
 use denote.Ref.{now}
 use lib.ListN.{length, drop}
 use Rattle.report.specs.Followed.{followed}
-use Rattle.writer.proofs.Puts.{put-length}
-use Rattle.report.proofs.Going.{Going, going-start, going-end, no-steps, steps-short, steps-on}
+use Rattle.text.proofs.Onward.{Onward, onward-start, onward-end}
+use Rattle.report.proofs.Going.{no-steps, steps-short, steps-on}
 use Rattle.report.proofs.put_steps.Statement.{statement}
 use Rattle.report.proofs.put_steps.Tie as tie
 
 abbrev Inv-loop : tie.InvT-loop
-Inv-loop out₀ at c names run place₀ x₀ home₀ i₀ out place x home i = (i ≤ length run) × Going out₀ at (followed c names 0 0 0 run) (followed c names i x home (drop i run)) place out
+Inv-loop out₀ at c names run place₀ x₀ home₀ i₀ out place x home i = (i ≤ length run) × Onward out₀ at (followed c names 0 0 0 run) out place (followed c names i x home (drop i run))
 
 abbrev μ-loop : tie.MeasureT-loop
 μ-loop out₀ at c names run place₀ x₀ home₀ i₀ out place x home i = length run - i
 
 loop-holds : tie.Need-loop-holds Inv-loop μ-loop
-loop-holds c = (omega arith, going-start)
+loop-holds c = (omega arith, onward-start)
 
 shared-slice-read-b : tie.Need-shared-slice-read-b Inv-loop μ-loop
 shared-slice-read-b c = search needs
@@ -41,10 +41,10 @@ loop-again : tie.Need-loop-again Inv-loop μ-loop
 loop-again c = (omega arith, steps-on (c .before .before .before .before .before .before .before .before .before .before .before .before .args .c) (now (c .before .before .before .before .before .before .before .before .before .before .before .before .args .names)) (c .before .before .before .before .before .before .before .before .loop .x) (c .before .before .before .before .before .before .before .before .loop .home) (now (c .before .before .before .before .before .before .before .before .before .before .before .before .args .run)) (c .before .before .before .before .before .before .before .before .loop .i) (c .before .before .before .before .before .before .before .before .loop .inv .1) (c .before .before .before .before .before .before .before .loop-test .taken) (c .before .before .before .before .put-step .ensures) (c .before .next-state .ensures) (c .next-home .ensures))
 
 same-length : tie.Need-same-length Inv-loop μ-loop
-same-length c = put-length (c .before .loop .inv .1 .put)
+same-length c = c .before .loop .inv .1 .size
 
 returns : tie.Need-returns Inv-loop μ-loop
-returns c = going-end (no-steps (c .before .before .before .before .before .args .c) (now (c .before .before .before .before .before .args .names)) (c .before .loop .i) (c .before .loop .x) (c .before .loop .home) (now (c .before .before .before .before .before .args .run)) (c .before .loop .i) (c .loop-test .left)) (c .before .loop .inv .1)
+returns c = onward-end (no-steps (c .before .before .before .before .before .args .c) (now (c .before .before .before .before .before .args .names)) (c .before .loop .i) (c .before .loop .x) (c .before .loop .home) (now (c .before .before .before .before .before .args .run)) (c .before .loop .i) (c .loop-test .left)) (c .before .loop .inv .1)
 
 pub put-steps-spec : {M : Type 1} → statement M
 put-steps-spec =

@@ -5,8 +5,8 @@ use native.Mathlib.Omega.{arith}
 use lib.ListN.{length}
 use borrow.Author.Needs.{needs}
 use denote.Ref.{now}
-use Rattle.writer.specs.Spelling.{tens, headText}
-use Rattle.writer.proofs.Puts.{put-then, short-first, short-next}
+use Rattle.text.specs.Spelling.{tens, headText}
+use Rattle.text.proofs.Puts.{put-then, short-first, short-next}
 use Rattle.report.specs.Output.{wordLine}
 use Rattle.report.specs.Followed.{followed, stuckText}
 use Rattle.report.proofs.put_stuck.Statement.{statement}

@@ -1,7 +1,7 @@
 -- `report::say_compliant` meets its contract.
 use native.Mathlib.Omega.{arith}
 use borrow.Author.Needs.{needs}
-use Rattle.writer.specs.Spelling.{tens}
+use Rattle.text.specs.Spelling.{tens}
 use Rattle.report.proofs.Telling.{told-long, told-fits}
 use Rattle.report.proofs.Sizes.{compliant-length, compliant-short}
 use Rattle.report.proofs.say_compliant.Statement.{statement}

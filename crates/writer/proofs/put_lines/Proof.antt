@@ -3,7 +3,7 @@ use Prim.Native.Nat.{_-_}
 use native.Mathlib.Omega.{arith}
 use borrow.Author.Needs.{needs}
 use Rattle.behaviour.specs.Limits.{mostStates}
-use Rattle.writer.specs.Spelling.{tens}
+use Rattle.text.specs.Spelling.{tens}
 use Rattle.writer.proofs.Telling.{Going, go-start, go-mark, go-messages, go-more, go-end}
 use Rattle.writer.proofs.put_lines.Statement.{statement}
 use Rattle.writer.proofs.put_lines.Tie as tie

@@ -1,6 +1,6 @@
 -- `writer::put_mark` meets its contract.
 use mathlib.Core.Path.{sym}
-use Rattle.writer.proofs.Puts.{put-nothing, put-as, short-as}
+use Rattle.text.proofs.Puts.{put-nothing, put-as, short-as}
 use Rattle.writer.proofs.States.{mark-none, mark-some}
 use borrow.Author.Needs.{needs}
 use Rattle.writer.proofs.put_mark.Statement.{statement}

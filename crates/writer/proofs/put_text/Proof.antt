@@ -3,9 +3,9 @@ use mathlib.Core.Path.{sym}
 use Prim.Native.Nat.{_+_}
 use native.Mathlib.Omega.{arith}
 use lib.ListN.{take}
-use Rattle.writer.specs.Spelling.{tens, headText}
+use Rattle.text.specs.Spelling.{tens, headText}
 use Rattle.writer.specs.Text.{linesFrom, linesText}
-use Rattle.writer.proofs.Puts.{put-as, put-then, short-as, short-first, short-next}
+use Rattle.text.proofs.Puts.{put-as, put-then, short-as, short-first, short-next}
 use Rattle.writer.proofs.Whole.{text-short, whole}
 use borrow.Author.Needs.{needs}
 use Rattle.writer.proofs.put_text.Statement.{statement}

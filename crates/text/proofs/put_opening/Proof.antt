@@ -1,10 +1,10 @@
--- `writer::put_opening` meets its contract.
+-- `text::put_opening` meets its contract.
 use mathlib.Core.List.{[], _∷_, _++_}
-use Rattle.writer.specs.Spelling.{decimal, opening}
-use Rattle.writer.proofs.Puts.{put-then, short-first, short-next}
+use Rattle.text.specs.Spelling.{decimal, opening}
+use Rattle.text.proofs.Puts.{put-then, short-first, short-next}
 use borrow.Author.Needs.{needs}
-use Rattle.writer.proofs.put_opening.Statement.{statement}
-use Rattle.writer.proofs.put_opening.Tie as tie
+use Rattle.text.proofs.put_opening.Statement.{statement}
+use Rattle.text.proofs.put_opening.Tie as tie
 
 put-requires : tie.Need-put-requires
 unfolding opening

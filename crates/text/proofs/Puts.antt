@@ -4,9 +4,10 @@ use mathlib.Core.List.{List, [], _∷_, _++_}
 use Prim.Native.Nat.{ℕ, suc, _+_, _<_, _≤_}
 use native.Mathlib.Omega.{arith}
 use native.Mathlib.Numerals.{add-one}
-use lib.ListN.{length, set, getD, take, length-append}
-use lib.Seq.{sets, length-sets, set-out, take-suc, take-all, length-take-le}
-use Rattle.writer.specs.Putting.{Short, Put}
+use native.Mathlib.Nat.{zero-add}
+use lib.ListN.{length, set, getD, take, drop, length-append}
+use lib.Seq.{sets, sets-eq, length-sets, set-out, take-suc, take-all, length-take-le}
+use Rattle.text.specs.Putting.{Short, Put}
 
 pub sets-append : (l : List ℕ) (i : ℕ) (a b : List ℕ) → sets l i (a ++ b) ≡ sets (sets l i a) (i + length a) b
 sets-append l i [] b = let e : i + 0 ≡ i = omega arith in rw e
@@ -38,6 +39,14 @@ module _ {b : List ℕ} {at : ℕ} where
   -- the second of two has room where both have
   pub short-next : {w : List ℕ} {m : ℕ} {a : List ℕ} (v : List ℕ) → Short at (w ++ v) → Put b at w m a → Short m v
   short-next {w} v s h = let x = h .place in let l = length-append w v in let y = s .ends in record { ends = omega arith }
+
+-- a whole text, at the buffer's beginning
+module _ {b w : List ℕ} {r : ℕ} {e : List ℕ} (p : Put b 0 w r e) where
+  pub front-length : r ≡ length w
+  front-length = omega (arith, p .place)
+
+  pub front-bytes : length w ≤ length b → e ≡ w ++ drop (length w) b
+  front-bytes h = p .bytes ∙ rw (zero-add (length w)) at (sets-eq w b 0 (omega arith))
 
 pub short-first : {at : ℕ} (w v : List ℕ) → Short at (w ++ v) → Short at w
 short-first w v s = let l = length-append w v in let y = s .ends in record { ends = omega arith }

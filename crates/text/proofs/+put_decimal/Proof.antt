@@ -1,18 +1,18 @@
--- `writer::put_decimal` meets its contract: the digits before the last, with one fewer to come, and the last.
+-- `text::put_decimal` meets its contract: the digits before the last, with one fewer to come, and the last.
 use mathlib.Core.Path.{_∙_}
 use Prim.Native.Nat.{_+_, _-_}
 use native.Mathlib.Omega.{arith}
-use Rattle.writer.proofs.Puts.{put-length}
-use Rattle.writer.proofs.Digits.{tens-more, small-short, small-put, large-first, large-next, large-put}
+use Rattle.text.proofs.Puts.{put-length}
+use Rattle.text.proofs.Digits.{tens-more, small-short, small-put, large-first, large-next, large-put}
 use Prim.Native.Nat.{ℕ, _<_}
 use borrow.Fn.Kinds.{In}
 use borrow.Fn.PlainCycle.{Measures, is, falls, and}
-use Rattle.writer.proofs.put_decimal.Reads as put-decimal
-use Rattle.writer.proofs.put_decimal.Kinds as put-decimal-kinds
-use Rattle.writer.proofs.+put_decimal.Lts-put_decimal as put-decimal-lts
-use Rattle.writer.proofs.put.Reads as put-reads
-use Rattle.writer.proofs.+put_decimal.{statement}
-use Rattle.writer.proofs.+put_decimal.Tie.{close}
+use Rattle.text.proofs.put_decimal.Reads as put-decimal
+use Rattle.text.proofs.put_decimal.Kinds as put-decimal-kinds
+use Rattle.text.proofs.+put_decimal.Lts-put_decimal as put-decimal-lts
+use Rattle.text.proofs.put.Reads as put-reads
+use Rattle.text.proofs.+put_decimal.{statement}
+use Rattle.text.proofs.+put_decimal.Tie.{close}
 
 abbrev μ-put-decimal : Measures 1 put-decimal-kinds.ps ℕ
 μ-put-decimal κs a = a .1 .1 .0

@@ -1,10 +1,10 @@
--- `writer::put_line` meets its contract.
+-- `text::put_line` meets its contract.
 use mathlib.Core.List.{_++_}
-use Rattle.writer.specs.Spelling.{labelText, opening, closing, lineText}
-use Rattle.writer.proofs.Puts.{put-then, short-first, short-next}
+use Rattle.text.specs.Spelling.{labelText, opening, closing, lineText}
+use Rattle.text.proofs.Puts.{put-then, short-first, short-next}
 use borrow.Author.Needs.{needs}
-use Rattle.writer.proofs.put_line.Statement.{statement}
-use Rattle.writer.proofs.put_line.Tie as tie
+use Rattle.text.proofs.put_line.Statement.{statement}
+use Rattle.text.proofs.put_line.Tie as tie
 
 put-opening-requires : tie.Need-put-opening-requires
 unfolding lineText

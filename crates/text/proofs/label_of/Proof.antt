@@ -1,7 +1,7 @@
--- `report::label_of` meets its contract.
+-- `text::label_of` meets its contract.
 use borrow.Author.Tests.{eq-eqb, ne-eqb}
-use Rattle.report.proofs.label_of.Statement.{statement}
-use Rattle.report.proofs.label_of.Tie as tie
+use Rattle.text.proofs.label_of.Statement.{statement}
+use Rattle.text.proofs.label_of.Tie as tie
 
 returns : tie.Need-returns
 returns c = rw (eq-eqb (c .before .args .sign) 1 (c .if1 .taken))

@@ -1,7 +1,7 @@
--- How the writer spells numbers, labels and lines: "no space but the one after `des`".
+-- How the AUT writers spell numbers, labels and lines: "no space but the one after `des`".
 use mathlib.Core.List.{List, [], _∷_, _++_}
 use Prim.Native.Nat.{ℕ, zero, suc, _+_, _*_, _/_, _%_}
-use lib.Dec.{ltb}
+use lib.Dec.{eqb, ltb}
 use Rattle.names.specs.If.{if}
 use Rattle.names.specs.Names.{textOf}
 use Rattle.tokens.specs.declared.Label.{Label}
@@ -35,6 +35,10 @@ labelText Mark = ckp
 labelText (Take n) = 63 ∷ textOf n
 labelText (Send n) = 33 ∷ textOf n
 labelText Other = []
+
+-- a message at a state that takes (sign 1) or sends (sign 2)
+abbrev pub messageLabel : ℕ → ℕ → Label
+messageLabel g n = if (eqb g 1) (Take n) (Send n)
 
 -- `(F,"`
 unfoldable pub opening : ℕ → List ℕ

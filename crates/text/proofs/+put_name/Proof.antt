@@ -1,18 +1,18 @@
--- `writer::put_name` meets its contract: the bytes before the last, and the last unless it is zero.
+-- `text::put_name` meets its contract: the bytes before the last, and the last unless it is zero.
 use mathlib.Core.Path.{_≡_, _∙_}
 use Prim.Native.Nat.{_+_, _-_}
 use native.Mathlib.Omega.{arith}
-use Rattle.writer.proofs.Puts.{put-nothing, put-as, put-length}
-use Rattle.writer.proofs.Digits.{name-empty, name-first, name-skipped, name-next, name-put}
+use Rattle.text.proofs.Puts.{put-nothing, put-as, put-length}
+use Rattle.text.proofs.Digits.{name-empty, name-first, name-skipped, name-next, name-put}
 use Prim.Native.Nat.{ℕ, _<_}
 use borrow.Fn.Kinds.{In}
 use borrow.Fn.PlainCycle.{Measures, is, falls, and}
-use Rattle.writer.proofs.put_name.Reads as put-name
-use Rattle.writer.proofs.put_name.Kinds as put-name-kinds
-use Rattle.writer.proofs.+put_name.Lts-put_name as put-name-lts
-use Rattle.writer.proofs.put.Reads as put-reads
-use Rattle.writer.proofs.+put_name.{statement}
-use Rattle.writer.proofs.+put_name.Tie.{close}
+use Rattle.text.proofs.put_name.Reads as put-name
+use Rattle.text.proofs.put_name.Kinds as put-name-kinds
+use Rattle.text.proofs.+put_name.Lts-put_name as put-name-lts
+use Rattle.text.proofs.put.Reads as put-reads
+use Rattle.text.proofs.+put_name.{statement}
+use Rattle.text.proofs.+put_name.Tie.{close}
 
 abbrev μ-put-name : Measures 1 put-name-kinds.ps ℕ
 μ-put-name κs a = a .1 .1 .0

@@ -8,9 +8,9 @@ use borrow.Author.Tests.{lt-ltb, le-ltb, eq-eqb, ne-eqb, eqb-true, eqb-false}
 use lib.Dec.{eqb}
 use mathlib.Core.Bool.{Bool, true, false}
 use Rattle.names.specs.Names.{nameText}
-use Rattle.writer.specs.Spelling.{decimalOf, tens}
-use Rattle.writer.specs.Putting.{Short, Put}
-use Rattle.writer.proofs.Puts.{put-as, put-then, short-as, short-first, short-next}
+use Rattle.text.specs.Spelling.{decimalOf, tens}
+use Rattle.text.specs.Putting.{Short, Put}
+use Rattle.text.proofs.Puts.{put-as, put-then, short-as, short-first, short-next}
 
 pub decimal-small : (k n : ℕ) → n < 10 → decimalOf k n ≡ (48 + n) ∷ []
 unfolding decimalOf

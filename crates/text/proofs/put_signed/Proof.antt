@@ -1,8 +1,8 @@
--- `writer::put_signed` meets its contract.
-use Rattle.writer.proofs.Puts.{put-then}
+-- `text::put_signed` meets its contract.
+use Rattle.text.proofs.Puts.{put-then}
 use borrow.Author.Needs.{needs}
-use Rattle.writer.proofs.put_signed.Statement.{statement}
-use Rattle.writer.proofs.put_signed.Tie as tie
+use Rattle.text.proofs.put_signed.Statement.{statement}
+use Rattle.text.proofs.put_signed.Tie as tie
 
 put-requires : tie.Need-put-requires
 put-requires c κs = search needs

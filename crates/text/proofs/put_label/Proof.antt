@@ -1,13 +1,13 @@
--- `writer::put_label` meets its contract: `labelled` takes the case's text for the label's.
+-- `text::put_label` meets its contract: `labelled` takes the case's text for the label's.
 use mathlib.Core.Path.{_≡_, sym, ap}
 use mathlib.Core.List.{List}
 use Prim.Native.Nat.{ℕ}
 use Rattle.tokens.specs.declared.Label.{Label}
-use Rattle.writer.specs.Spelling.{labelText}
-use Rattle.writer.proofs.Puts.{put-nothing, put-as, short-as}
+use Rattle.text.specs.Spelling.{labelText}
+use Rattle.text.proofs.Puts.{put-nothing, put-as, short-as}
 use borrow.Author.Needs.{needs}
-use Rattle.writer.proofs.put_label.Statement.{statement}
-use Rattle.writer.proofs.put_label.Tie as tie
+use Rattle.text.proofs.put_label.Statement.{statement}
+use Rattle.text.proofs.put_label.Tie as tie
 
 labelled : {l k : Label} → l ≡ k → labelText l ≡ labelText k
 labelled e = ap {B = List ℕ} (λ (x : Label). labelText x) e

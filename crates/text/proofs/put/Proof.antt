@@ -1,8 +1,8 @@
--- `writer::put` meets its contract.
+-- `text::put` meets its contract.
 use borrow.Author.Needs.{needs}
-use Rattle.writer.proofs.Puts.{put-past}
-use Rattle.writer.proofs.put.Statement.{statement}
-use Rattle.writer.proofs.put.Tie as tie
+use Rattle.text.proofs.Puts.{put-past}
+use Rattle.text.proofs.put.Statement.{statement}
+use Rattle.text.proofs.put.Tie as tie
 
 add-result : tie.Need-add-result
 add-result c = search needs

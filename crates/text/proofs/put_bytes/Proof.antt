@@ -1,12 +1,12 @@
--- `writer::put_bytes` meets its contract. The loop's invariant: the first `j` bytes are put.
+-- `text::put_bytes` meets its contract. The loop's invariant: the first `j` bytes are put.
 use Prim.Native.Nat.{_≤_, _-_}
 use native.Mathlib.Omega.{arith}
 use borrow.Author.Needs.{needs}
 use lib.ListN.{length, take}
-use Rattle.writer.specs.Putting.{Put}
-use Rattle.writer.proofs.Puts.{put-nothing, put-length, bytes-short, bytes-more, bytes-all}
-use Rattle.writer.proofs.put_bytes.Statement.{statement}
-use Rattle.writer.proofs.put_bytes.Tie as tie
+use Rattle.text.specs.Putting.{Put}
+use Rattle.text.proofs.Puts.{put-nothing, put-length, bytes-short, bytes-more, bytes-all}
+use Rattle.text.proofs.put_bytes.Statement.{statement}
+use Rattle.text.proofs.put_bytes.Tie as tie
 
 abbrev Inv-loop : tie.InvT-loop
 Inv-loop buf₀ at w place₀ j₀ buf place j = (j ≤ length w) × Put buf₀ at (take j w) place buf
