@@ -35,6 +35,8 @@ use Rattle.report.specs.declared.Reported.{Reported}
 use Rattle.report.specs.declared.Reported.the-variants as reported
 use Rattle.report.specs.Reports.{Reports}
 use Rattle.report.proofs.Ranged.{ranged}
+use Rattle.packing.specs.Back.{unpacked-sized}
+use Rattle.packing.specs.BackStand.{packed-below}
 use Rattle.packing.specs.Numbers.{packedStand}
 use Rattle.packing.specs.Value.{valueBytes, unpacked}
 use Rattle.packing.specs.Value as packing
@@ -48,7 +50,7 @@ use Rattle.promises.specs.Values.{Writing, writing, judge-refused, repor
 use Rattle.promises.specs.Sessions as sessions
 use Rattle.promises.specs.Sessions.{Called, called, open-refused}
 use Rattle.promises.specs.Verdicts.{counted}
-use Rattle.promises.specs.Bounds.{unpacked-sized, stands-few, cause-few, steps-few, stand-small, packed-below, text-few}
+use Rattle.promises.specs.Bounds.{stands-few, cause-few, steps-few, stand-small, text-few}
 
 -- Kept: what is lent is as it was
 pub data Answered (r : ℕ) (Kept : Type 0) : Type 0 where

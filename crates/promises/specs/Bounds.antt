@@ -1,22 +1,16 @@
 -- How large what is granted can be: every grant fits into the lower half of an answer to C.
-use mathlib.Core.Path.{_≡_, refl, sym, ap, subst, _∙_}
+use mathlib.Core.Path.{_≡_, sym, ap, subst, _∙_}
 use mathlib.Core.Bool.{Bool, true, false}
 use mathlib.Core.List.{List}
 use mathlib.Core.Option.{some}
-use Prim.Native.Nat.{ℕ, zero, suc, _+_, _*_, _<_, _≤_}
+use Prim.Native.Nat.{ℕ, _*_, _<_, _≤_}
 use native.Mathlib.Omega.{arith}
 use native.Mathlib.Nat.{mul-le-mul}
-use borrow.Author.Tests.{eqb-true}
-use lib.Dec.{eqb}
-use lib.ListN.{length, drop, length-drop, length-replicate}
-use lib.Seq.{length-take-le}
+use lib.ListN.{length}
 use Rattle.names.specs.If.{if}
-use Rattle.behaviour.specs.declared.Message.{Message}
 use Rattle.behaviour.specs.declared.Behaviour.{Behaviour}
-use Rattle.behaviour.specs.Limits.{mostStates, mostLines}
 use Rattle.behaviour.specs.Sound.{sound}
 use Rattle.behaviour.specs.SoundLaws.{Sized, parts, side-most, mark-below}
-use Rattle.aut.specs.Adding.{unused, bare}
 use Rattle.aut.specs.File.{file}
 use Rattle.runs.specs.System.{Reachable, after}
 use Rattle.runs.specs.System as runs
@@ -32,9 +26,7 @@ use Rattle.stands.specs.Cases.{bytes}
 use Rattle.compliance.specs.SoundStand.{clientHeld, serverHeld, Sound, Marked}
 use Rattle.verdict.specs.Answer.{BothSound}
 use Rattle.sides.specs.Numbers.{size, number, stand, stand-number, number-below}
-use Rattle.packing.specs.Value.{valueBytes, messageBytes, unpackedMessages, unpacked}
-use Rattle.packing.specs.Numbers.{clientPointNumber, serverPointNumber, packedStand}
-use Rattle.packing.specs.BackStand.{Small, ClientBelow, ServerBelow}
+use Rattle.packing.specs.BackStand.{Small}
 use Rattle.roundtrip.specs.Theorems.{read-sound}
 use Rattle.report.specs.Output.{judgedText, Taken, Prints, client-refused, server-refused, both-judged}
 use Rattle.report.specs.RunText.{runText}
@@ -44,24 +36,6 @@ use Rattle.report.proofs.Following.{followed-run}
 use Rattle.report.proofs.Sizes.{word-length, compliant-length, stuck-length}
 use Rattle.report.proofs.Ranged.{ranged, reached-sound}
 use Rattle.report.proofs.Few.{run-few}
-
--- the arrays of a value that is unpacked are as long as those of every value
-messages-many : (k : ℕ) (s : List ℕ) → length (unpackedMessages k s) ≡ k
-unfolding unpackedMessages
-messages-many zero s = refl
-messages-many (suc k) s = omega (arith, messages-many k (drop messageBytes s))
-
-whole-sized : (t : Bool) (b : Behaviour) → (t ≡ true → Sized b) → Sized (if t b (bare 0))
-whole-sized true b h = h refl
-whole-sized false b h = record { marks = length-replicate {A = ℕ} mostStates 0; signs = length-replicate {A = ℕ} mostStates 0; messages = length-replicate {A = Message} mostLines unused }
-
-pub unpacked-sized : (s : List ℕ) → Sized (unpacked s)
-unfolding unpacked
-unpacked-sized s = whole-sized (eqb (length s) valueBytes) _ (λ e. let n = eqb-true (length s) valueBytes e in record {
-  marks = length-take-le mostStates (drop 2 s) (rw length-drop (omega arith));
-  signs = length-take-le mostStates (drop (2 + mostStates) s) (rw length-drop (omega arith));
-  messages = messages-many mostLines (drop (2 + 2 * mostStates) s);
-})
 
 module _ (c s : Behaviour) (a : Sized c) (b : Sized s) (k : BothSound c s) where
   held : (w : List ℕ) (p : Stand) → after (pair c s) w ≡ some p → Sound c s p
@@ -106,19 +80,6 @@ module _ (c s : Behaviour) (a : Sized c) (b : Sized s) (k : BothSound c s) where
     server = omega (arith, o .server, parts s (k .server) .most-states);
     serverpoint = λ y e. omega (arith, mark-below s b (parts s (k .server)) (y .0) (subst (λ (g : ServerPoint). Marked (s .marks) (serverHeld g)) e (o .serverpoint)), parts s (k .server) .most-states);
   }
-
-client-byte : (g : ClientPoint) → ClientBelow g → clientPointNumber g < 256
-client-byte client.Nowhere h = omega arith
-client-byte (client.To x) h = omega (arith, h x refl)
-
-server-byte : (g : ServerPoint) → ServerBelow g → serverPointNumber g < 256
-server-byte server.Nowhere h = omega arith
-server-byte (server.To y) h = omega (arith, h y refl)
-
-pub packed-below : (p : Stand) → Small p → packedStand p < 4294967296
-unfolding packedStand
-packed-below p h =
-    omega (arith, h .client, client-byte (p .clientpoint) (h .clientpoint), h .server, server-byte (p .serverpoint) (h .serverpoint))
 
 -- what the verdict program prints of any two files has fewer bytes than the header's TYTTMOSE_REPORT_SIZE
 judged-few : (c s : Behaviour) → Sized c → Sized s → BothSound c s → (j : Judgement) → Judged c s j → length (judgedText c s j) ≤ 315000

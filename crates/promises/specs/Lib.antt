@@ -5,6 +5,5 @@ pub mod Sessions
 pub mod Verdicts
 pub mod Bounds
 pub mod Boundary
-pub mod Numbers
 pub mod Through
 pub mod Promises

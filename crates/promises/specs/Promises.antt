@@ -30,18 +30,19 @@ use Rattle.session.specs.declared.Session.{Session}
 use Rattle.session.specs.declared.Answer.{Answer}
 use Rattle.session.specs.declared.Answer.the-variants as answer
 use Rattle.session.specs.Answers.{refused, named, messaged, rolledBack}
-use Rattle.session.specs.Opening.{Opens}
+use Rattle.session.specs.Opening.{Begins, Opens}
 use Rattle.lines.specs.declared.Outcome.the-variants as outcome
 use Rattle.lines.specs.Lent.{keptOf, OpensInto}
 use Rattle.report.specs.declared.Reported.{Reported}
 use Rattle.report.specs.declared.Reported.the-variants as reported
 use Rattle.report.specs.Reports.{Reports}
 use Rattle.host.specs.Calls as host
+use Rattle.host.specs.Sessions.{watchedNumber, number-demand3}
 use Rattle.packing.specs.Value.{valueBytes, unpacked}
 use Rattle.history.specs.Demand.{Demand}
 use Rattle.session.specs.Sides.{clientSide, serverSide}
 use Rattle.session.specs.Watched.{watched}
-use Rattle.session.specs.Demand3.{opened-meets}
+use Rattle.session.specs.Demand3.{demand3}
 use Rattle.lines.specs.History as lent
 use Rattle.promises.specs.Table.{InTable}
 use Rattle.promises.specs.Reading.{Reading, reading}
@@ -52,7 +53,6 @@ use Rattle.promises.specs.Sessions.{called}
 use Rattle.promises.specs.Verdicts.{TurnedDown, Shortest, by-definition, turned-down, shortest-given, longer-refused, count-given}
 use Rattle.promises.specs.Boundary as c
 use Rattle.promises.specs.Boundary.{Answered}
-use Rattle.promises.specs.Numbers as numbers
 use Rattle.promises.specs.Through as through
 
 -- DEMAND 1. "Any bytes may come as a description, any numbers as a session. Every public entry point refuses what it cannot use, by a
@@ -133,14 +133,15 @@ pub record Demand2 : Type 1 where
 -- the last granted rollback (or the opening), or none. A rollback is granted exactly when both hold one; it puts both there and clears both.
 -- At all times the client is finished, or one side has a message to send and the other takes every message it may send."
 -- `Demand` (history/specs/Demand.antt) has these sentences, a field each, over what is seen of a session after any list of calls.
+-- `Begins c s z` is what an opening states that hands back z: the pair is compliant.
 pub record Demand3 : Type 0 where
   -- [session::open, Session::message, Session::rollback]
-  pub by-value : (c s : Behaviour) (z : Session) → Opens c s (answer.Next z) → Demand named (clientSide c) (serverSide s) (watched c s z)
+  pub by-value : (c s : Behaviour) (z : Session) → Begins c s z → Demand named (clientSide c) (serverSide s) (watched c s z)
   -- on a lent record [lines::open, lines::message, lines::rollback]
-  pub on-a-line : (c s : Behaviour) (z : Session) → Opens c s (answer.Next z) → (l : lent.Line c s z) → Demand named (clientSide c) (serverSide s) (lent.seenOf l)
-  -- as a number that C keeps [host::tyttmose_open, host::tyttmose_message, host::tyttmose_rollback]
-  pub as-a-number : (client server : List ℕ) (n : ℕ) → host.Opens client server n → n < 4294967296 → (l : numbers.Kept client server n)
-      → Demand named (clientSide (unpacked client)) (serverSide (unpacked server)) (numbers.seenOf l)
+  pub on-a-line : (c s : Behaviour) (z : Session) (l : lent.Line c s z) → Begins c s z → Demand named (clientSide c) (serverSide s) (lent.seenOf l)
+  -- as the number that a C host takes from each answer [host::tyttmose_open, host::tyttmose_message, host::tyttmose_rollback]
+  pub as-a-number : (client server : List ℕ) (z : Session) (b : Begins (unpacked client) (unpacked server) z)
+      → Demand named (clientSide (unpacked client)) (serverSide (unpacked server)) (watchedNumber client server z b)
 
 -- THE THEOREMS
 pub demand-1 : Demand1
@@ -195,9 +196,4 @@ demand-2 = record {
 }
 
 pub demand-3 : Demand3
-unfolding Opens
-demand-3 = record {
-  by-value = opened-meets;
-  on-a-line = λ c s z o l. lent.lines-demand3 c s z l o;
-  as-a-number = numbers.numbers-demand3;
-}
+demand-3 = record { by-value = demand3; on-a-line = lent.lines-demand3; as-a-number = number-demand3 }

@@ -22,13 +22,11 @@ use Rattle.steps.specs.Tests.{isStand, stand-sound, sound-stand}
 use Rattle.stands.specs.Judgement.{Judged}
 use Rattle.verdict.specs.Answer.{BothSound}
 use Rattle.stands.specs.Stands as rules
-use Rattle.history.specs.Calls.{Call, message, rollback}
 use Rattle.session.specs.declared.Session.{Session}
 use Rattle.session.specs.declared.Answer.{Answer}
 use Rattle.session.specs.declared.Answer.the-variants as answer
 use Rattle.session.specs.Answers.{refused, fault, checked, stepped, named, messaged, rolledBack}
 use Rattle.session.specs.Opening.{Opens}
-use Rattle.session.specs.Watched.{answered}
 use Rattle.lines.specs.declared.Kept.{Kept}
 use Rattle.lines.specs.declared.Outcome.the-variants as outcome
 use Rattle.lines.specs.Lent.{keptOf, OpensInto}
@@ -107,11 +105,6 @@ module _ (c s : Behaviour) (z : Session) where
   rollback-refused f e =
       let o = rules.rollback (z .stand) in
       call-refused Table.rollback-not-possible (subst (Called c s (z .stand) 17 o) e (called c s (z .stand) 17 o))
-
-  pub answered-refused : (k : Call) (f : Refusal) → answered c s z k ≡ answer.Refused f → InTable f
-  unfolding answered
-  answered-refused (message name) f e = message-refused name f e
-  answered-refused rollback f e = rollback-refused f e
 
 -- what a lent record holds after a call that is refused
 pub kept-refused : (line y : Session) (a : Answer) (f : Refusal) → keptOf line a ≡ record { session = y; outcome = outcome.Refused f } → (a ≡ answer.Refused f) × (y ≡ line)

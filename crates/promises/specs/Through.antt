@@ -24,12 +24,11 @@ use Rattle.writer.specs.Text.{text}
 use Rattle.writer.specs.Written as writer
 use Rattle.packing.specs.Value.{valueBytes, packed, unpacked}
 use Rattle.packing.specs.Value as packing
-use Rattle.packing.specs.Back.{Names, packed-length, value-back}
+use Rattle.packing.specs.Back.{Names, packed-length, value-back, unpacked-sized}
 use Rattle.host.specs.Numbers.{refusedNumber, writtenNumber}
 use Rattle.host.specs.Calls.{Reads, Writes}
 use Rattle.promises.specs.Values as values
 use Rattle.promises.specs.Values.{Writing, writing}
-use Rattle.promises.specs.Bounds.{unpacked-sized}
 use Rattle.promises.specs.Boundary.{refused-above}
 
 -- what has at most k bytes
