@@ -7,3 +7,4 @@ pub mod Bounds
 pub mod Boundary
 pub mod Through
 pub mod Promises
+pub mod OneAnswer
