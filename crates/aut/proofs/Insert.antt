@@ -1,23 +1,16 @@
 -- Sorted insertion as the code does it: place by place, with one message in the hand.
-use mathlib.Core.Path.{_≡_, sym, ap₂}
+use mathlib.Core.Path.{_≡_, sym}
 use mathlib.Core.List.{List, [], _∷_, _++_, append-assoc}
 use mathlib.Core.Bool.{true, false}
-use Prim.Native.Nat.{ℕ, suc, _+_, _-_, _<_, _≤_}
+use Prim.Native.Nat.{ℕ, _+_, _-_, _<_, _≤_}
 use native.Mathlib.Numerals.{add-one}
 use native.Mathlib.Omega.{arith}
 use lib.ListN.{length, getD, drop, take, set}
 use lib.Seq.{take-suc, take-suc-set, drop-set-lt, set-split}
-use Rattle.names.specs.Places.{here}
 use Rattle.behaviour.specs.declared.Message.{Message}
+use Rattle.behaviour.specs.Pick.{unused, next-used}
 use Rattle.behaviour.specs.Sound.{before}
-use Rattle.aut.specs.Adding.{unused, insert}
-
-pub used : (n : ℕ) (a : List Message) (i : ℕ) → i < n → n ≤ length a
-    → take (n - i) (drop i a) ≡ getD a i unused ∷ take (n - (i + 1)) (drop (i + 1) a)
-used n a i h l =
-    let e : n - i ≡ suc (n - (i + 1)) = omega arith in
-    let k : i < length a = omega arith in
-    ap₂ {C = List Message} take e (here unused a i k)
+use Rattle.aut.specs.Adding.{insert}
 
 -- what is still to come from place i on, with m in the hand and n places used
 unfoldable pub rest : ℕ → Message → List Message → ℕ → List Message
@@ -35,14 +28,14 @@ module _ (n : ℕ) (m : Message) (a : List Message) (i : ℕ) (h : i < n) (l : n
       let k : i < length a = omega arith in
       let p : i < i + 1 = omega arith in
       let q : i < n + 1 = omega arith in
-      rw (used n a i h (omega arith), e, drop-set-lt (i + 1) a i m p, drop-set-lt (n + 1) a i m q, add-one i, take-suc-set a i m k)
+      rw (next-used n a i h (omega arith), e, drop-set-lt (i + 1) a i m p, drop-set-lt (n + 1) a i m q, add-one i, take-suc-set a i m k)
       (sym (append-assoc (take i a) (m ∷ []) _))
 
   pub insert-by : before m (getD a i unused) ≡ false → take i a ++ rest n m a i ≡ take (i + 1) a ++ rest n m a (i + 1)
   unfolding rest insert
   insert-by e =
       let k : i < length a = omega arith in
-      rw (used n a i h (omega arith), e, add-one i, take-suc a i unused k) (sym (append-assoc (take i a) (getD a i unused ∷ []) _))
+      rw (next-used n a i h (omega arith), e, add-one i, take-suc a i unused k) (sym (append-assoc (take i a) (getD a i unused ∷ []) _))
 
 pub insert-end : (n : ℕ) (m : Message) (a : List Message) (i : ℕ) → n ≤ i → i ≤ n → n < length a → take i a ++ rest n m a i ≡ set a n m
 unfolding rest insert

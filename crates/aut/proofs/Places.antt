@@ -8,9 +8,9 @@ use lib.Dec.{eqb}
 use lib.ListN.{length, getD, drop, take, drop-of-length-le}
 use Rattle.names.specs.Places.{here}
 use Rattle.behaviour.specs.declared.Message.{Message}
-use Rattle.aut.specs.Adding.{unused, has}
+use Rattle.behaviour.specs.Pick.{is, unused, next-used}
+use Rattle.aut.specs.Adding.{has}
 use Rattle.aut.specs.File.{markedFinished}
-use Rattle.aut.proofs.Insert.{used}
 
 module _ (f n count : ℕ) (a : List Message) (i : ℕ) where
   pub has-start : has f n (take count a) ≡ has f n (take (count - 0) (drop 0 a))
@@ -20,15 +20,15 @@ module _ (f n count : ℕ) (a : List Message) (i : ℕ) where
   unfolding has
   has-end h = let e : count - i ≡ 0 = omega arith in rw e
 
-  pub has-yes : i < count → count ≤ length a → (eqb (getD a i unused .from) f && eqb (getD a i unused .name) n) ≡ true
+  pub has-yes : i < count → count ≤ length a → is f n (getD a i unused) ≡ true
       → true ≡ has f n (take (count - i) (drop i a))
   unfolding has
-  has-yes h l e = rw (used count a i h l, e)
+  has-yes h l e = rw (next-used count a i h l, e)
 
-  pub has-more : i < count → count ≤ length a → (eqb (getD a i unused .from) f && eqb (getD a i unused .name) n) ≡ false
+  pub has-more : i < count → count ≤ length a → is f n (getD a i unused) ≡ false
       → has f n (take (count - i) (drop i a)) ≡ has f n (take (count - (i + 1)) (drop (i + 1) a))
   unfolding has
-  has-more h l e = rw (used count a i h l, e)
+  has-more h l e = rw (next-used count a i h l, e)
 
 module _ (k : ℕ) (ms gs : List ℕ) (i : ℕ) where
   pub marked-end : length ms ≤ i → k ≡ markedFinished k (drop i ms) (drop i gs)

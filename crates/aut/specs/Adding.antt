@@ -11,6 +11,7 @@ use Rattle.tokens.specs.declared.Line.{Line}
 use Rattle.behaviour.specs.declared.Message.{Message}
 use Rattle.behaviour.specs.declared.Behaviour.{Behaviour}
 use Rattle.behaviour.specs.Limits.{mostStates, mostLines}
+use Rattle.behaviour.specs.Pick.{is, unused}
 use Rattle.behaviour.specs.Sound.{messages, before}
 
 -- "messages sorted by state and then by name": of m and the first, the one that comes before stands first, and the other goes on
@@ -21,12 +22,9 @@ insert m (x ∷ l) = if (before m x) (m ∷ insert x l) (x ∷ insert m l)
 -- a message n at the state f
 unfoldable pub has : ℕ → ℕ → List Message → Bool
 has f n [] = false
-has f n (x ∷ l) = if (eqb (x .from) f && eqb (x .name) n) true (has f n l)
+has f n (x ∷ l) = if (is f n x) true (has f n l)
 
 -- "Unused places are zero": a value of s states with nothing in it
-abbrev pub unused : Message
-unused = record { name = 0; from = 0; to = 0 }
-
 abbrev pub bare : ℕ → Behaviour
 bare s = record { states = s; count = 0; marks = replicate mostStates 0; signs = replicate mostStates 0; messages = replicate mostLines unused }
 

@@ -7,9 +7,10 @@ use lib.ListN.{length, length-replicate}
 use Rattle.tokens.specs.Lines.{line}
 use Rattle.tokens.specs.declared.Line.{Line}
 use Rattle.behaviour.specs.declared.Behaviour.{Behaviour}
+use Rattle.behaviour.specs.Pick.{unused}
 use Rattle.behaviour.specs.Limits.{mostStates, mostLines, mostBytes}
 use Rattle.aut.specs.declared.Read.{Read}
-use Rattle.aut.specs.Adding.{unused, bare, add}
+use Rattle.aut.specs.Adding.{bare, add}
 use Rattle.aut.specs.File.{finish, file}
 use Rattle.aut.specs.Swapping.{Open, open-add, swapped}
 use Rattle.aut.specs.Contents.{Accepted, Contents, contents-of, as-many, judged, AllTaken, addAll, taken-judged, judged-taken, file-short, accepted-ranges, file-judged}

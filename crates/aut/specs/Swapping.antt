@@ -14,9 +14,10 @@ use Rattle.tokens.specs.declared.Line.{Line}
 use Rattle.behaviour.specs.declared.Message.{Message}
 use Rattle.behaviour.specs.declared.Behaviour.{Behaviour}
 use Rattle.behaviour.specs.Limits.{mostStates, mostLines}
+use Rattle.behaviour.specs.Pick.{is}
 use Rattle.behaviour.specs.Sound.{messages}
 use Rattle.aut.specs.Adding.{insert, has, add, addMark, addMessage, check}
-use Rattle.aut.specs.Inserting.{isAt, has-insert, length-insert, insert-swap}
+use Rattle.aut.specs.Inserting.{has-insert, length-insert, insert-swap}
 use Rattle.aut.specs.Accepting.{signOf, Kind, mark, message, other, kind, markLine, saidLine, saidMessage, Marks, Says, mark-taken, mark-checks, mark-adds, said-taken, said-checks, said-adds, other-refused}
 
 -- a value with room for k lines more
@@ -168,14 +169,14 @@ module _ (b : Behaviour) (t u : Bool) (n f g m k j : ℕ) (o : Open 2 b)
   agree e = same-sign t u (λ z. q .one-sign (ap (λ (x : ℕ). getD (set (b .signs) f (signOf t)) x 0) (sym e) ∙ getD-set-same (b .signs) f (signOf t) 0 state-room ∙ z))
 
   -- the second was not there before the first
-  apart : (isAt k m (saidMessage n f g) ≡ false) × (has k m (messages b) ≡ false)
+  apart : (is k m (saidMessage n f g) ≡ false) × (has k m (messages b) ≡ false)
   apart =
-      if-false (isAt k m (saidMessage n f g)) (has k m (messages b))
+      if-false (is k m (saidMessage n f g)) (has k m (messages b))
       (sym (has-insert k m (saidMessage n f g) (messages b))
       ∙ ap (has k m) (sym (put-used (saidMessage n f g) (b .count) (b .messages) here-room))
       ∙ q .new-name)
 
-  apart-2 : isAt f n (saidMessage m k j) ≡ false
+  apart-2 : is f n (saidMessage m k j) ≡ false
   apart-2 = rw (eqb-sym k f, eqb-sym m n) (apart .0)
 
   second : Says b u m k j

@@ -18,7 +18,6 @@ ghost use lib.Dec.{eqb, ltb};
 ghost use Prim.Native.Nat.{_+_, _<_, _≤_};
 ghost use lib.ListN.{drop, take};
 ghost use Rattle.behaviour.specs.Limits.{mostStates, mostLines};
-ghost use Rattle.behaviour.specs.Sound.{before};
 ghost use Rattle.aut.specs.Adding.{insert, has, bare, add, check, addMark, addMessage, checkMessage, checkLabel};
 ghost use Rattle.aut.specs.File.{refuse, markedFinished, finish, lines, file};
 
@@ -26,19 +25,6 @@ ghost use Rattle.aut.specs.File.{refuse, markedFinished, finish, lines, 
 pub struct Read {
     pub refusal: Refusal,
     pub value: Behaviour,
-}
-
-// `a` stands before `b`: by state and then by name.
-fn earlier(a: Message, b: Message) -> bool
-    ensures { λ r. ⌜ r ≡ before a b ⌝ }
-{
-    if a.from < b.from {
-        return true;
-    }
-    if a.from != b.from {
-        return false;
-    }
-    a.name < b.name
 }
 
 // `m` in its place among the first `n` of `a`. From place to place the later of two messages is carried on.
@@ -51,7 +37,7 @@ fn inserted(a: Messages, n: usize, m: Message) -> Messages
     let mut i = 0;
     while i < n {
         let x = out[i];
-        if earlier(held, x) {
+        if behaviour::comes_before(held, x) {
             out[i] = held;
             held = x;
             i += 1;
@@ -63,15 +49,6 @@ fn inserted(a: Messages, n: usize, m: Message) -> Messages
     out
 }
 
-fn is_at(x: Message, f: u8, n: u64) -> bool
-    ensures { λ r. ⌜ r ≡ (eqb (x .from) f && eqb (x .name) n) ⌝ }
-{
-    if x.from != f {
-        return false;
-    }
-    x.name == n
-}
-
 // A message `n` at the state `f` is among the first `count`.
 fn is_known(a: Messages, count: usize, f: u8, n: u64) -> bool
     requires { ⌜ count ≤ mostLines ⌝ }
@@ -80,7 +57,7 @@ fn is_known(a: Messages, count: usize, f: u8, n: u64) -> bool
     let mut i = 0;
     while i < count {
         let x = a[i];
-        if is_at(x, f, n) {
+        if behaviour::is_at(x, f, n) {
             return true;
         }
         i += 1;

@@ -4,19 +4,14 @@ use mathlib.Core.List.{List, [], _∷_}
 use mathlib.Core.Bool.{Bool, true, false, _&&_, _||_, not}
 use Prim.Native.Nat.{ℕ, zero, suc, _+_, _-_, _<_, _≤_}
 use native.Mathlib.Omega.{arith}
-use native.Mathlib.Numerals.{add-one}
 use lib.Dec.{eqb}
-use lib.Seq.{drop-cons}
 use lib.ListN.{length, getD, set, drop, take, drop-of-length-le}
 use Rattle.names.specs.If.{if}
+use Rattle.names.specs.Places.{here}
 use Rattle.behaviour.specs.declared.Message.{Message}
-use Rattle.behaviour.specs.Pick.{pick, nil, next-used}
+use Rattle.behaviour.specs.Pick.{pick, unused, next-used}
 use Rattle.behaviour.specs.Spoken.{spoken, settledBy}
 use Rattle.behaviour.specs.Sound.{before, between, allBetween, sorted, blank, allBlank, signed, markable, total}
-
-module _ {A : Type 0} (d : A) (l : List A) (i : ℕ) (h : i < length l) where
-  pub here : drop i l ≡ getD l i d ∷ drop (i + 1) l
-  here = rw (add-one i, drop-cons l i d h)
 
 pub between-pick : (s : ℕ) (l : List Message) → allBetween s l ≡ pick (λ m. not (between s m)) (λ _. false) true l
 unfolding allBetween pick
@@ -40,14 +35,14 @@ module _ (n : ℕ) (a : List Message) (i : ℕ) where
   sorted-end h = few-sorted (n - i) (drop i a) (omega arith)
 
   module _ (j : ℕ) (q : j ≡ i + 1) (h : j < n) (m : n ≤ length a) where
-    two : take (n - i) (drop i a) ≡ getD a i nil ∷ (getD a j nil ∷ take (n - (j + 1)) (drop (j + 1) a))
+    two : take (n - i) (drop i a) ≡ getD a i unused ∷ (getD a j unused ∷ take (n - (j + 1)) (drop (j + 1) a))
     two = next-used n a i (omega arith) m ∙ rw (← q, next-used n a j h m)
 
-    pub sorted-no : before (getD a i nil) (getD a j nil) ≡ false → false ≡ sorted (take (n - i) (drop i a))
+    pub sorted-no : before (getD a i unused) (getD a j unused) ≡ false → false ≡ sorted (take (n - i) (drop i a))
     unfolding sorted
     sorted-no e = rw (two, e)
 
-    pub sorted-more : before (getD a i nil) (getD a j nil) ≡ true → sorted (take (n - i) (drop i a)) ≡ sorted (take (n - (i + 1)) (drop (i + 1) a))
+    pub sorted-more : before (getD a i unused) (getD a j unused) ≡ true → sorted (take (n - i) (drop i a)) ≡ sorted (take (n - (i + 1)) (drop (i + 1) a))
     unfolding sorted
     sorted-more e = rw (two, ← q, next-used n a j h m, e)
 
@@ -57,20 +52,20 @@ module _ (a : List Message) (i : ℕ) where
   blank-end h = rw (drop-of-length-le a h)
 
   module _ (h : i < length a) where
-    pub blank-no : blank (getD a i nil) ≡ false → false ≡ allBlank (drop i a)
+    pub blank-no : blank (getD a i unused) ≡ false → false ≡ allBlank (drop i a)
     unfolding allBlank
-    blank-no e = rw (here nil a i h, e)
+    blank-no e = rw (here unused a i h, e)
 
-    pub blank-more : blank (getD a i nil) ≡ true → allBlank (drop i a) ≡ allBlank (drop (i + 1) a)
+    pub blank-more : blank (getD a i unused) ≡ true → allBlank (drop i a) ≡ allBlank (drop (i + 1) a)
     unfolding allBlank
-    blank-more e = rw (here nil a i h, e)
+    blank-more e = rw (here unused a i h, e)
 
 module _ (n : ℕ) (a : List Message) (t : List ℕ) (i : ℕ) where
   pub spoken-end : n ≤ i → spoken t (take (n - i) (drop i a)) ≡ t
   unfolding spoken
   spoken-end h = let e : n - i ≡ 0 = omega arith in rw e
 
-  pub spoken-more : i < n → n ≤ length a → spoken t (take (n - i) (drop i a)) ≡ spoken (set t (getD a i nil .from) 1) (take (n - (i + 1)) (drop (i + 1) a))
+  pub spoken-more : i < n → n ≤ length a → spoken t (take (n - i) (drop i a)) ≡ spoken (set t (getD a i unused .from) 1) (take (n - (i + 1)) (drop (i + 1) a))
   unfolding spoken
   spoken-more h m = rw (next-used n a i h m)
 

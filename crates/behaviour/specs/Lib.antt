@@ -2,5 +2,6 @@ pub mod Limits
 pub mod Refusals
 pub mod Pick
 pub mod Sound
+pub mod Ordered
 pub mod Spoken
 pub mod SoundLaws

@@ -2,6 +2,7 @@
 use mathlib.Core.Path.{_≡_, refl, sym, ap, subst, _∙_}
 use mathlib.Core.List.{List, [], _∷_}
 use mathlib.Core.Bool.{Bool, true, false, _&&_, _||_, not}
+use mathlib.Core.Logic.{⊎-elim}
 use Prim.Native.Nat.{ℕ, zero, suc, _+_, _*_, _<_, _≤_}
 use native.Mathlib.Omega.{arith}
 use native.Mathlib.Nat.{mul-le-mul}
@@ -10,8 +11,11 @@ use lib.Dec.{leb, ltb, eqb}
 use lib.ListN.{length, getD, take, drop, List·getD-eq-default}
 use Rattle.names.specs.If.{if}
 use Rattle.names.specs.Names.{isName}
+use Rattle.names.specs.Tests.{both}
+pub use Rattle.names.specs.Tests.{no}
 use Rattle.behaviour.specs.Limits.{mostStates, mostLines}
-use Rattle.behaviour.specs.Pick.{nil}
+use Rattle.behaviour.specs.Pick.{unused}
+use Rattle.behaviour.specs.Ordered.{less, before-trans}
 use Rattle.behaviour.specs.declared.Message.{Message}
 use Rattle.behaviour.specs.declared.Behaviour.{Behaviour}
 use Rattle.behaviour.specs.Sound.{messages, before, sorted, between, allBetween, allBlank, speaks, signed, markable, settled, total, sound}
@@ -31,13 +35,6 @@ pub record Parts (b : Behaviour) : Type 0 where
   pub sorted : sorted (messages b) ≡ true
   pub blank : allBlank (drop (b .count) (b .messages)) ≡ true
   pub settled : settled 0 (b .marks) (b .signs) (messages b) ≡ true
-
-pub no : {A : Type 0} → false ≡ true → A
-no e = absurd (let z : _≡_ {A = ℕ} 0 1 = cc in omega arith)
-
-pub both : (a b : Bool) → (a && b) ≡ true → (a ≡ true) × (b ≡ true)
-both true b e = (refl, e)
-both false b e = no e
 
 pub parts : (b : Behaviour) → sound b ≡ true → Parts b
 unfolding sound
@@ -82,36 +79,17 @@ between-parts s m e =
     let g = both (ltb (m .to) s) (isName (m .name)) (f .1) in
     record { from = ltb-true (m .from) s (f .0); to = ltb-true (m .to) s (g .0); name = g .1 }
 
-pub between-at : (s : ℕ) (l : List Message) → allBetween s l ≡ true → (i : ℕ) → i < length l → Between s (getD l i nil)
+pub between-at : (s : ℕ) (l : List Message) → allBetween s l ≡ true → (i : ℕ) → i < length l → Between s (getD l i unused)
 unfolding allBetween
 between-at s [] e i h = absurd (omega arith)
 between-at s (m ∷ l) e zero h = between-parts s m (both (between s m) _ e .0)
 between-at s (m ∷ l) e (suc i) h = between-at s l (both (between s m) _ e .1) i (omega arith)
 
 -- the order of the used messages: each comes before all that follow
-module _ (a b : Message) where
-  pub before-cases : {A : Type 0} → before a b ≡ true → (a .from < b .from → A) → (a .from ≡ b .from → a .name < b .name → A) → A
-  before-cases {A} e f g = go (ltb (a .from) (b .from)) refl e
-    where
-      go : (t : Bool) → ltb (a .from) (b .from) ≡ t → (t || (eqb (a .from) (b .from) && ltb (a .name) (b .name))) ≡ true → A
-      go true q e = f (ltb-true (a .from) (b .from) q)
-      go false q e =
-          let h = both (eqb (a .from) (b .from)) _ e in
-          g (eqb-true (a .from) (b .from) (h .0)) (ltb-true (a .name) (b .name) (h .1))
+pub before-cases : (a b : Message) {A : Type 0} → before a b ≡ true → (a .from < b .from → A) → (a .from ≡ b .from → a .name < b .name → A) → A
+before-cases a b e f g = ⊎-elim f (λ h. g (h .0) (h .1)) (less a b e)
 
-  pub before-less : a .from < b .from → before a b ≡ true
-  before-less h = rw (lt-ltb (a .from) (b .from) h)
-
-  pub before-same : a .from ≡ b .from → a .name < b .name → before a b ≡ true
-  before-same e h = rw (le-ltb (a .from) (b .from) (omega arith), eq-eqb (a .from) (b .from) e, lt-ltb (a .name) (b .name) h)
-
-pub before-trans : (a b c : Message) → before a b ≡ true → before b c ≡ true → before a c ≡ true
-before-trans a b c e f =
-    before-cases a b e
-    (λ h. before-cases b c f (λ k. before-less a c (omega arith)) (λ q k. before-less a c (omega arith)))
-    (λ p h. before-cases b c f (λ k. before-less a c (omega arith)) (λ q k. before-same a c (p ∙ q) (omega arith)))
-
-pub sorted-at : (l : List Message) → sorted l ≡ true → (i j : ℕ) → i < j → j < length l → before (getD l i nil) (getD l j nil) ≡ true
+pub sorted-at : (l : List Message) → sorted l ≡ true → (i j : ℕ) → i < j → j < length l → before (getD l i unused) (getD l j unused) ≡ true
 unfolding sorted
 sorted-at [] e i j h k = absurd (omega arith)
 sorted-at (m ∷ l) e i zero h k = absurd (omega arith)
@@ -119,27 +97,27 @@ sorted-at (m ∷ []) e i (suc j) h k = absurd (omega arith)
 sorted-at (m ∷ x ∷ l) e zero (suc zero) h k = both (before m x) _ e .0
 sorted-at (m ∷ x ∷ l) e zero (suc (suc j)) h k =
     let f = both (before m x) _ e in
-    before-trans m x (getD l j nil) (f .0) (sorted-at (x ∷ l) (f .1) 0 (suc j) (omega arith) (omega arith))
+    before-trans m x (getD l j unused) (f .0) (sorted-at (x ∷ l) (f .1) 0 (suc j) (omega arith) (omega arith))
 sorted-at (m ∷ x ∷ l) e (suc i) (suc j) h k = sorted-at (x ∷ l) (both (before m x) _ e .1) i j (omega arith) (omega arith)
 
 -- a state speaks exactly if some message is from it
-pub speaks-from : (k : ℕ) (l : List Message) → speaks k l ≡ true → (i : ℕ) × (i < length l) × (getD l i nil .from ≡ k)
+pub speaks-from : (k : ℕ) (l : List Message) → speaks k l ≡ true → (i : ℕ) × (i < length l) × (getD l i unused .from ≡ k)
 unfolding speaks
 speaks-from k [] e = no e
 speaks-from k (m ∷ l) e = go (eqb (m .from) k) refl e (speaks-from k l)
   where
-    go : (t : Bool) → eqb (m .from) k ≡ t → (t || speaks k l) ≡ true → (speaks k l ≡ true → (i : ℕ) × (i < length l) × (getD l i nil .from ≡ k))
-        → (i : ℕ) × (i < length (m ∷ l)) × (getD (m ∷ l) i nil .from ≡ k)
+    go : (t : Bool) → eqb (m .from) k ≡ t → (t || speaks k l) ≡ true → (speaks k l ≡ true → (i : ℕ) × (i < length l) × (getD l i unused .from ≡ k))
+        → (i : ℕ) × (i < length (m ∷ l)) × (getD (m ∷ l) i unused .from ≡ k)
     go true q e r = (0, omega arith, eqb-true (m .from) k q)
     go false q e r = let f = r e in (suc (f .0), omega (arith, f .1), f .2)
 
-pub from-speaks : (l : List Message) (i : ℕ) → i < length l → speaks (getD l i nil .from) l ≡ true
+pub from-speaks : (l : List Message) (i : ℕ) → i < length l → speaks (getD l i unused .from) l ≡ true
 unfolding speaks
 from-speaks [] i h = absurd (omega arith)
 from-speaks (m ∷ l) zero h = rw (eq-eqb (m .from) (m .from) refl)
-from-speaks (m ∷ l) (suc i) h = go (eqb (m .from) (getD l i nil .from)) (from-speaks l i (omega arith))
+from-speaks (m ∷ l) (suc i) h = go (eqb (m .from) (getD l i unused .from)) (from-speaks l i (omega arith))
   where
-    go : (t : Bool) → speaks (getD l i nil .from) l ≡ true → (t || speaks (getD l i nil .from) l) ≡ true
+    go : (t : Bool) → speaks (getD l i unused .from) l ≡ true → (t || speaks (getD l i unused .from) l) ≡ true
     go true e = refl
     go false e = e
 

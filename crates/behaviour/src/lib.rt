@@ -7,6 +7,7 @@ ghost use lib.Dec.{eqb};
 ghost use lib.ListN.{length, getD, take, drop, replicate};
 ghost use Rattle.names.specs.If.{if};
 ghost use Rattle.behaviour.specs.declared.Message.{Message};
+ghost use Rattle.behaviour.specs.Pick.{is};
 ghost use Rattle.behaviour.specs.Refusals.{refusal};
 ghost use Rattle.behaviour.specs.Spoken.{spoken, settledBy};
 ghost use Rattle.behaviour.specs.Sound.{before, between, allBetween, sorted, blank, allBlank, signed, markable, total, sound};
@@ -93,6 +94,16 @@ pub fn comes_before(a: Message, b: Message) -> bool
         return false;
     }
     a.name < b.name
+}
+
+// Is it the message `n` from the state `x`?
+pub fn is_at(m: Message, x: u8, n: u64) -> bool
+    ensures { λ r. ⌜ r ≡ is x n m ⌝ }
+{
+    if m.from != x {
+        return false;
+    }
+    m.name == n
 }
 
 fn is_between(m: Message, states: u8) -> bool

@@ -1,4 +1,5 @@
 pub mod Kinds
+pub mod Among
 pub mod Labels
 pub mod Order
 pub mod SoundStand

@@ -1,5 +1,6 @@
 -- A pair has one judgement: two that are allowed are equal.
 use mathlib.Core.Path.{_≡_, subst}
+use mathlib.Core.List.{List}
 use mathlib.Core.Option.{some}
 use Prim.Native.Nat.{ℕ}
 use native.Mathlib.Omega.{arith}
@@ -21,3 +22,7 @@ judged-unique c s (stuck e r) (stuck f t) p q =
     let u : cause c s n ≡ e = p .1 n (p .0 .0 .leads) in
     let v : cause c s n ≡ f = q .1 n (subst (λ i. runs.after (pair c s) i ≡ some n) w (p .0 .0 .leads)) in
     cc
+
+-- no pair is both compliant and stuck
+pub unlike : {A : Type 0} (c s : Behaviour) (k e : ℕ) (w : List ℕ) → Judged c s (compliant k) → Judged c s (stuck e w) → A
+unlike c s k e w p q = let h = judged-unique c s (compliant k) (stuck e w) p q in absurd (let z : _≡_ {A = ℕ} 0 1 = cc in omega arith)

@@ -1,2 +1,2 @@
-mod Names
+pub mod Names
 mod Numbers

@@ -21,7 +21,7 @@ module _ (c : ℕ) where
   pub neither : c < 97 → c < 48 → false ≡ isNameByte c
   neither h l = simp (lt-leb 97 c h, lt-leb 48 c l)
 
--- what a name's beginning is below where k bytes more may follow
+-- what a number's beginning is below where k bytes more may follow
 unfoldable pub room : ℕ → ℕ
 room zero = 2 ^ 64
 room (suc k) = room k / 256

@@ -14,23 +14,9 @@ use Rattle.names.specs.If.{if}
 use Rattle.behaviour.specs.Limits.{mostStates, mostLines}
 use Rattle.behaviour.specs.declared.Message.{Message}
 use Rattle.behaviour.specs.declared.Behaviour.{Behaviour}
-use Rattle.aut.specs.Adding.{unused, bare}
+use Rattle.behaviour.specs.Pick.{unused}
+use Rattle.aut.specs.Adding.{bare}
 use Rattle.packing.specs.Value.{messageBytes, valueBytes, numberOf, unpackedMessage, unpackedMessages, whole, unpacked}
-
--- what a name's beginning is below where k bytes more follow
-unfoldable pub room : ℕ → ℕ
-room zero = 2 ^ 64
-room (suc k) = room k / 256
-
-pub room-all : (k : ℕ) → room k ≤ 2 ^ 64
-unfolding room
-room-all zero = omega arith
-room-all (suc k) = omega (arith, room-all k)
-
-pub room-more : (k v d : ℕ) → 0 < k → v < room k → d < 256 → v * 256 + d < room (k - 1)
-unfolding room
-room-more zero v d p h e = absurd (omega arith)
-room-more (suc k) v d p h e = rw sub-one (omega arith)
 
 pub number-more : (s : List ℕ) (i k v : ℕ) → 0 < k → i < length s → numberOf k v (drop i s) ≡ numberOf (k - 1) (v * 256 + getD s i 0) (drop (i + 1) s)
 unfolding numberOf

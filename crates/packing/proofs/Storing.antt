@@ -7,20 +7,14 @@ use native.Mathlib.Omega.{arith}
 use lib.ListN.{length, getD, set, take, drop, length-set, length-append, drop-of-length-le}
 use lib.Seq.{sets, sets-eq, length-sets, set-comm}
 use Rattle.names.specs.Names.{nameBytes}
-use Rattle.names.specs.Places.{here}
+use Rattle.names.specs.Places.{here, sets-append}
 use Rattle.behaviour.specs.Limits.{mostStates, mostLines}
 use Rattle.behaviour.specs.declared.Message.{Message}
 use Rattle.behaviour.specs.declared.Behaviour.{Behaviour}
-use Rattle.behaviour.specs.Pick.{nil}
+use Rattle.behaviour.specs.Pick.{unused}
 use Rattle.behaviour.specs.SoundLaws.{Sized}
 use Rattle.packing.specs.Back.{message-length, packed-length}
 use Rattle.packing.specs.Value.{messageBytes, valueBytes, bytesOf, packedMessage, packedMessages, packed}
-
-pub sets-append : (xs ys l : List ℕ) (i : ℕ) → sets l i (xs ++ ys) ≡ sets (sets l i xs) (i + length xs) ys
-sets-append [] ys l i = let e : i ≡ i + 0 = omega arith in ap (λ (k : ℕ). sets l k ys) e
-sets-append (x ∷ xs) ys l i =
-    let e : suc i + length xs ≡ i + suc (length xs) = omega arith in
-    sets-append xs ys (set l i x) (suc i) ∙ ap (λ (k : ℕ). sets (sets (set l i x) (suc i) xs) k ys) e
 
 set-sets : (vs l : List ℕ) (i j x : ℕ) → i < j → set (sets l j vs) i x ≡ sets (set l i x) j vs
 set-sets [] l i j x h = refl
@@ -81,19 +75,19 @@ rest-stored a out i at h =
 pub all-stored : {A : Type 0} (a : List A) (i : ℕ) → length a ≤ i → drop i a ≡ []
 all-stored a i h = drop-of-length-le a h
 
-pub rest-messages : (a : List Message) (i : ℕ) → i < length a → packedMessages (drop i a) ≡ packedMessage (getD a i nil) ++ packedMessages (drop (i + 1) a)
+pub rest-messages : (a : List Message) (i : ℕ) → i < length a → packedMessages (drop i a) ≡ packedMessage (getD a i unused) ++ packedMessages (drop (i + 1) a)
 unfolding packedMessages
-rest-messages a i h = rw (here nil a i h)
+rest-messages a i h = rw (here unused a i h)
 
 pub no-messages : (a : List Message) (i : ℕ) → length a ≤ i → packedMessages (drop i a) ≡ []
 unfolding packedMessages
 no-messages a i h = rw (all-stored a i h)
 
 pub next-message : (a : List Message) (out : List ℕ) (i p : ℕ) → i < length a
-    → sets out p (packedMessages (drop i a)) ≡ sets (sets out p (packedMessage (getD a i nil))) (p + messageBytes) (packedMessages (drop (i + 1) a))
+    → sets out p (packedMessages (drop i a)) ≡ sets (sets out p (packedMessage (getD a i unused))) (p + messageBytes) (packedMessages (drop (i + 1) a))
 next-message a out i p h =
     rw (rest-messages a i h)
-    (sets-append (packedMessage (getD a i nil)) (packedMessages (drop (i + 1) a)) out p ∙ rw (message-length (getD a i nil)))
+    (sets-append out p (packedMessage (getD a i unused)) (packedMessages (drop (i + 1) a)) ∙ rw (message-length (getD a i unused)))
 
 -- the whole value, part after part
 pub all-parts : (b : Behaviour) (out one two three : List ℕ) → Sized b
@@ -104,7 +98,7 @@ unfolding packed
 all-parts b out one two three z e f h l =
     let w = b .signs ++ packedMessages (b .messages) in
     let a : sets out 0 (packed b) ≡ three =
-    sets-append (b .marks) w (set (set out 0 (b .states)) 1 (b .count)) 2
-    ∙ rw (z .marks, ← e) (sets-append (b .signs) (packedMessages (b .messages)) one (2 + mostStates) ∙ rw (z .signs, ← f) (sym h)) in
+    sets-append (set (set out 0 (b .states)) 1 (b .count)) 2 (b .marks) w
+    ∙ rw (z .marks, ← e) (sets-append one (2 + mostStates) (b .signs) (packedMessages (b .messages)) ∙ rw (z .signs, ← f) (sym h)) in
     let n : length (packed b) ≡ valueBytes = packed-length b z in
     sym a ∙ (sets-eq (packed b) out 0 (omega arith) ∙ rw n)

@@ -18,7 +18,7 @@ ghost use lib.ListN.{length, getD, drop, take, replicate};
 ghost use lib.Seq.{sets};
 ghost use Rattle.names.specs.Names.{nameBytes};
 ghost use Rattle.behaviour.specs.Limits.{mostStates, mostLines};
-ghost use Rattle.aut.specs.Adding.{unused};
+ghost use Rattle.behaviour.specs.Pick.{unused};
 ghost use Rattle.packing.specs.Value.{messageBytes, valueBytes, bytesOf, numberOf, packedMessage, packedMessages, unpackedMessage, unpackedMessages, whole, unpacked, left};
 ghost use Rattle.packing.specs.Numbers.{clientPointNumber, serverPointNumber, clientPointOf, serverPointOf, packedStand, unpackedStand};
 

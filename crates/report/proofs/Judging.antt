@@ -10,7 +10,7 @@ use lib.Seq.{take-at, length-take-le}
 use Rattle.behaviour.specs.declared.Behaviour.{Behaviour}
 use Rattle.behaviour.specs.declared.Refusal.{Refusal}
 use Rattle.behaviour.specs.Sound.{sound}
-use Rattle.behaviour.specs.SoundLaws.{no}
+use Rattle.names.specs.Tests.{no}
 use Rattle.stands.specs.Stands.{alphabet}
 use Rattle.stands.specs.Judgement.{Judgement, compliant, stuck, Judged}
 use Rattle.stands.specs.Cases.{bytes}

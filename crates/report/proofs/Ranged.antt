@@ -1,27 +1,15 @@
 -- The stands that a run of two sound values reaches are sound.
 use mathlib.Core.Path.{_≡_, subst}
-use mathlib.Core.Bool.{Bool, true}
 use mathlib.Core.List.{List, [], _∷_}
 use mathlib.Core.Option.{Option, some}
 use Prim.Native.Nat.{ℕ}
-use Rattle.behaviour.specs.declared.Message.{Message}
 use Rattle.behaviour.specs.declared.Behaviour.{Behaviour}
-use Rattle.behaviour.specs.Sound.{messages, between, allBetween}
-use Rattle.behaviour.specs.SoundLaws.{Sized, Parts, both, between-parts, mark-below}
 use Rattle.stands.specs.declared.Stand.{Stand}
 use Rattle.stands.specs.Stands.{start, step, pair}
 use Rattle.compliance.specs.SoundStand.{Sound}
-use Rattle.compliance.specs.Kept.{Ends, Ranged, start-sound, step-sound}
+use Rattle.compliance.specs.Kept.{Ranged, start-sound, step-sound}
 use Rattle.runs.specs.System.{from, after}
 use Rattle.runs.specs.Rank.{opened}
-
-ends : (s : ℕ) (l : List Message) → allBetween s l ≡ true → Ends s l
-unfolding Ends allBetween
-ends s [] e = tt
-ends s (m ∷ l) e = let a = both (between s m) (allBetween s l) e in (between-parts s m (a .0) .to, ends s l (a .1))
-
-pub ranged : (b : Behaviour) → Sized b → Parts b → Ranged b
-ranged b z p = record { some-state = p .some-state; ends = ends (b .states) (messages b) (p .between); marks = mark-below b z p }
 
 module _ (c s : Behaviour) (a : Ranged c) (b : Ranged s) where
   from-sound : (w : List ℕ) (p q : Stand) → Sound c s p → from (pair c s) (some p) w ≡ some q → Sound c s q

@@ -1,85 +1,20 @@
 -- A label that is read is allowed, or is none of the three.
-use mathlib.Core.Path.{_≡_, refl, subst}
+use mathlib.Core.Path.{_≡_}
 use mathlib.Core.List.{List, [], _∷_}
-use mathlib.Core.Bool.{Bool, true, false, _&&_, _||_}
+use mathlib.Core.Bool.{Bool, true, false}
 use mathlib.Core.Logic.{_⊎_, inl, inr}
-use Prim.Native.Nat.{ℕ, zero, suc, _+_, _-_, _*_, _/_, _%_, _≤_}
-use native.Mathlib.Omega.{arith}
-use borrow.Author.Tests.{eq-eqb, leb-true, eqb-true}
-use lib.Dec.{eqb, leb}
+use Prim.Native.Nat.{ℕ}
+use borrow.Author.Tests.{eq-eqb}
+use lib.Dec.{eqb}
 use Rattle.names.specs.If.{if}
-use Rattle.names.specs.Names.{nameBytes, isNameByte, name, nameNumber, full, padded, isName}
+use Rattle.names.specs.Names.{nameNumber, isName}
+use Rattle.names.specs.Laws.{zero-or-name}
 use Rattle.tokens.specs.Parse.{Got, got, off, andThen, Nothing}
 use Rattle.tokens.specs.Tokens.{spaces, byte, number, quoted, labelled, label, taken, sent, marked, word}
 use Rattle.tokens.specs.Lines.{line, after, ending}
 use Rattle.tokens.specs.declared.Label.{Label}
 use Rattle.tokens.specs.declared.Label.the-variants.{Mark, Take, Send, Other}
 use Rattle.tokens.specs.declared.Line.{Line}
-use Rattle.behaviour.specs.SoundLaws.{no, both}
-use Rattle.roundtrip.specs.Names.{not-zero}
-
-pub name-high : (c : ℕ) → isNameByte c ≡ true → c ≤ 122
-name-high c e = go (leb 97 c) (leb c 122) (leb 48 c) (leb c 57) refl refl e
-  where
-    go : (s t u v : Bool) → leb c 122 ≡ t → leb c 57 ≡ v → ((s && t) || (u && v)) ≡ true → c ≤ 122
-    go s true u v p q h = leb-true c 122 p
-    go true false true true p q h = let k : c ≤ 57 = leb-true c 57 q in omega arith
-    go true false true false p q h = no h
-    go true false false v p q h = no h
-    go false false true true p q h = let k : c ≤ 57 = leb-true c 57 q in omega arith
-    go false false true false p q h = no h
-    go false false false v p q h = no h
-
-full-name : (j v : ℕ) → full (suc j) v ≡ true → padded (suc j) v ≡ true
-unfolding full padded
-full-name j v e = rw (not-zero (v % 256) (both (isNameByte (v % 256)) (full j (v / 256)) e .0)) e
-
-name-none : (k : ℕ) → name k 0 [] ≡ 0
-unfolding name
-name-none zero = refl
-name-none (suc k) = name-none k
-
-longer : (j v : ℕ) → padded j v ≡ true → padded (suc j) (v * 256) ≡ true
-unfolding padded
-longer j v e =
-    let a : v * 256 % 256 ≡ 0 = omega arith in
-    let b : v * 256 / 256 ≡ v = omega arith in
-    rw (a, b) e
-
-pads : (k j v : ℕ) → j + k ≡ nameBytes → padded j v ≡ true → isName (name k v []) ≡ true
-unfolding name
-pads zero j v q e = let f : j ≡ nameBytes = omega arith in subst (λ (x : ℕ). padded x v ≡ true) f e
-pads (suc k) j v q e = pads k (suc j) (v * 256) (omega arith) (longer j v e)
-
-full-more : (j v c : ℕ) → full j v ≡ true → isNameByte c ≡ true → full (suc j) (v * 256 + c) ≡ true
-unfolding full
-full-more j v c h e =
-    let l = name-high c e in
-    let a : (v * 256 + c) % 256 ≡ c = omega arith in
-    let b : (v * 256 + c) / 256 ≡ v = omega arith in
-    rw (a, b, e, h)
-
-empty-name : (k v : ℕ) → full 0 v ≡ true → name k v [] ≡ 0
-unfolding full
-empty-name k v e = let z : v ≡ 0 = eqb-true v 0 e in rw z (name-none k)
-
-start : full 0 0 ≡ true
-unfolding full
-start = refl
-
-name-made : (k j v : ℕ) (s : List ℕ) → j + k ≡ nameBytes → full j v ≡ true → (name k v s ≡ 0) ⊎ (isName (name k v s) ≡ true)
-unfolding name
-name-made zero zero v [] q e = absurd (omega arith)
-name-made zero (suc j) v [] q e = let f : suc j ≡ nameBytes = omega arith in inr (subst (λ (x : ℕ). padded x v ≡ true) f (full-name j v e))
-name-made zero j v (c ∷ s) q e = inl refl
-name-made (suc k) zero v [] q e = inl (empty-name (suc k) v e)
-name-made (suc k) (suc j) v [] q e = inr (pads (suc k) (suc j) v q (full-name j v e))
-name-made (suc k) j v (c ∷ s) q e = go (isNameByte c) refl (λ h. name-made k (suc j) (v * 256 + c) s (omega arith) h)
-  where
-    go : (t : Bool) → isNameByte c ≡ t → (full (suc j) (v * 256 + c) ≡ true → (name k (v * 256 + c) s ≡ 0) ⊎ (isName (name k (v * 256 + c) s) ≡ true))
-        → (if t (name k (v * 256 + c) s) 0 ≡ 0) ⊎ (isName (if t (name k (v * 256 + c) s) 0) ≡ true)
-    go true b i = i (full-more j v c e b)
-    go false b i = inl refl
 
 -- allowed, or none of the three
 abbrev pub LabelFair : Label → Type 0
@@ -104,7 +39,7 @@ marked-fair off = tt
 label-fair : (b : List ℕ) → LabelFair (label b)
 unfolding label
 label-fair [] = tt
-label-fair (c ∷ s) = go (eqb c 63) (eqb c 33) (signed-fair (nameNumber s) (name-made nameBytes 0 0 s refl start)) (marked-fair (word (99 ∷ 107 ∷ 112 ∷ []) (c ∷ s)))
+label-fair (c ∷ s) = go (eqb c 63) (eqb c 33) (signed-fair (nameNumber s) (zero-or-name s)) (marked-fair (word (99 ∷ 107 ∷ 112 ∷ []) (c ∷ s)))
   where
     go : (t u : Bool) → LabelFair (taken (nameNumber s)) × LabelFair (sent (nameNumber s)) → LabelFair (marked (word (99 ∷ 107 ∷ 112 ∷ []) (c ∷ s)))
         → LabelFair (if t (taken (nameNumber s)) (if u (sent (nameNumber s)) (marked (word (99 ∷ 107 ∷ 112 ∷ []) (c ∷ s)))))

@@ -1,5 +1,3 @@
-pub mod Bools
-pub mod Names
 pub mod Numbers
 pub mod Lines
 pub mod AddAll

@@ -1,13 +1,15 @@
 -- Reading a written line gives it back.
-use mathlib.Core.Path.{_≡_, refl, subst}
+use mathlib.Core.Path.{_≡_, refl}
 use mathlib.Core.List.{List, [], _∷_, _++_, append-assoc}
-use mathlib.Core.Bool.{Bool, true, false, _&&_, _||_}
+use mathlib.Core.Bool.{Bool, true, false}
 use Prim.Native.Nat.{ℕ, zero, suc, _+_, _-_, _/_, _%_, _<_, _≤_}
 use native.Mathlib.Omega.{arith}
-use borrow.Author.Tests.{ne-eqb, leb-true}
-use lib.Dec.{eqb, leb, ltb}
+use borrow.Author.Tests.{ne-eqb}
+use lib.Dec.{eqb, ltb}
 use Rattle.names.specs.If.{if}
+use Rattle.names.specs.Tests.{both}
 use Rattle.names.specs.Names.{nameBytes, isNameByte, full, padded, isName, nameText}
+use Rattle.names.specs.Laws.{byte-range, number-text, name-positive}
 use Rattle.tokens.specs.Parse.{got}
 use Rattle.tokens.specs.Tokens.{spaces, byte, number, text, some, quoted, labelled, label, word}
 use Rattle.tokens.specs.Lines.{line, head}
@@ -15,8 +17,6 @@ use Rattle.tokens.specs.declared.Label.{Label}
 use Rattle.tokens.specs.declared.Label.the-variants.{Mark, Take, Send, Other}
 use Rattle.tokens.specs.declared.Line.{Line}
 use Rattle.text.specs.Spelling.{decimalOf, decimal, labelText, opening, closing, lineText, headText}
-use Rattle.behaviour.specs.SoundLaws.{no, both}
-use Rattle.roundtrip.specs.Names.{not-zero, name-back}
 use Rattle.roundtrip.specs.Numbers.{other, number-back}
 
 -- a number begins with no space
@@ -44,21 +44,13 @@ unfolding text
 text-back [] r p = refl
 text-back (c ∷ b) r (one-more x y p) = rw (ne-eqb c 34 x, ne-eqb c 10 y, text-back b r p)
 
-pub name-low : (c : ℕ) → isNameByte c ≡ true → 48 ≤ c
-name-low c e = go (leb 97 c) (leb 48 c) refl refl e
-  where
-    go : (s t : Bool) → leb 97 c ≡ s → leb 48 c ≡ t → ((s && leb c 122) || (t && leb c 57)) ≡ true → 48 ≤ c
-    go true t p q h = let k : 97 ≤ c = leb-true 97 c p in omega arith
-    go false true p q h = leb-true 48 c q
-    go false false p q h = no h
-
 full-plain : (k n : ℕ) → full k n ≡ true → Plain (nameText k n)
 unfolding full nameText
 full-plain zero n e = no-byte
 full-plain (suc k) n e =
     let b = both (isNameByte (n % 256)) (full k (n / 256)) e in
-    let l : 48 ≤ n % 256 = name-low (n % 256) (b .0) in
-    rw (not-zero (n % 256) (b .0)) (plain-append (nameText k (n / 256)) _ (full-plain k (n / 256) (b .1)) (one-more (omega arith) (omega arith) no-byte))
+    let l = byte-range (n % 256) (b .0) in
+    rw (ne-eqb (n % 256) 0 (omega arith)) (plain-append (nameText k (n / 256)) _ (full-plain k (n / 256) (b .1)) (one-more (omega arith) (omega arith) no-byte))
 
 name-plain : (k n : ℕ) → padded k n ≡ true → Plain (nameText k n)
 unfolding padded nameText
@@ -77,16 +69,11 @@ Allowed (Take n) = isName n ≡ true
 Allowed (Send n) = isName n ≡ true
 Allowed Other = ⊥
 
-name-there : (n : ℕ) → isName n ≡ true → n ≡ 0 → ⊥
-unfolding padded
-name-there n e z =
-    let h : isName 0 ≡ true = subst (λ (x : ℕ). isName x ≡ true) z e in no h
-
 label-back : (l : Label) → Allowed l → label (labelText l) ≡ l
 unfolding label word byte
 label-back Mark a = refl
-label-back (Take n) a = rw (name-back n a, ne-eqb n 0 (name-there n a))
-label-back (Send n) a = rw (name-back n a, ne-eqb n 0 (name-there n a))
+label-back (Take n) a = rw (number-text n a, ne-eqb n 0 (name-positive n a))
+label-back (Send n) a = rw (number-text n a, ne-eqb n 0 (name-positive n a))
 label-back Other a = absurd a
 
 plain : (c : ℕ) (b : List ℕ) → (c ≡ 34 → ⊥) → (c ≡ 10 → ⊥) → Plain b → Plain (c ∷ b)

@@ -20,9 +20,11 @@ use Rattle.tokens.specs.declared.Head.{Head}
 use Rattle.behaviour.specs.declared.Message.{Message}
 use Rattle.behaviour.specs.declared.Behaviour.{Behaviour}
 use Rattle.behaviour.specs.Limits.{mostStates, mostLines, mostBytes}
+use Rattle.behaviour.specs.Pick.{unused}
 use Rattle.behaviour.specs.Sound.{messages, total}
 use Rattle.aut.specs.declared.Read.{Read}
-use Rattle.aut.specs.Adding.{insert, has, unused, bare, add, addLabel, addMessage, check, checkLabel, checkMessage}
+use Rattle.aut.specs.Adding.{insert, has, bare, add, addLabel, addMessage, check, checkLabel, checkMessage}
+use Rattle.aut.specs.Accepting.{low}
 use Rattle.aut.specs.File.{refuse, accept, markedFinished, finish, next, lines, begin, file}
 use Rattle.writer.specs.Text.{afterState}
 use Rattle.roundtrip.specs.Rebuild.{holding, AllBetween, Settled, rest-zero}
@@ -56,17 +58,6 @@ pub record Held (s n : ℕ) (mk gs : List ℕ) (l : List Message) : Type 0 where
 message-added : (s : ℕ) (p q : List ℕ) (a : List Message) (m : Message) (g : ℕ) → length a < mostLines → addMessage (holding s p q a) g m ≡ holding s p (set q (m .from) g) (insert m a)
 message-added s p q a m g r =
     rw (insert-length m a, take-append-seam a (replicate (mostLines - length a) unused), drop-append-add a (replicate (mostLines - length a) unused) 1, rest-zero (length a) r)
-
--- a line that meets no refusal
-check-parts : (b : Behaviour) (l : Line) → check b l ≡ 0 → (l .from < b .states) × (l .to < b .states) × (checkLabel b (l .from) (l .to) (l .label) ≡ 0)
-unfolding check
-check-parts b l e = go (ltb (l .from) (b .states)) (ltb (l .to) (b .states)) refl refl e
-  where
-    go : (t u : Bool) → ltb (l .from) (b .states) ≡ t → ltb (l .to) (b .states) ≡ u → if (t && u) (checkLabel b (l .from) (l .to) (l .label)) 6 ≡ 0
-        → (l .from < b .states) × (l .to < b .states) × (checkLabel b (l .from) (l .to) (l .label) ≡ 0)
-    go true true p q h = (ltb-true _ _ p, ltb-true _ _ q, h)
-    go true false p q h = absurd (omega arith)
-    go false u p q h = absurd (omega arith)
 
 message-new : (b : Behaviour) (f o n : ℕ) → checkMessage b f o n ≡ 0 → has f n (messages b) ≡ false
 message-new b f o n e = go (eqb (getD (b .signs) f 0) o) (has f n (messages b)) e
@@ -129,7 +120,7 @@ module _ (s n : ℕ) (high : s ≤ mostStates) (few : n < mostLines) (mk gs : Li
 
   line-held : (l : Line) → LabelFair (l .label) → check (holding s mk gs a) l ≡ 0 → Next s (n + 1) (add (holding s mk gs a) l)
   unfolding add
-  line-held l w e = let c = check-parts (holding s mk gs a) l e in label-held (l .from) (l .to) (l .label) w (c .0) (c .1) (c .2)
+  line-held l w e = let c = low (holding s mk gs a) l e in label-held (l .from) (l .to) (l .label) w (c .0) (c .1) (c .2)
 
 -- an answer that is no refusal has a valid value
 Fine : Read → Type 0

@@ -16,13 +16,14 @@ use Rattle.tokens.specs.declared.Line.{Line}
 use Rattle.behaviour.specs.declared.Message.{Message}
 use Rattle.behaviour.specs.declared.Behaviour.{Behaviour}
 use Rattle.behaviour.specs.Limits.{mostLines}
+use Rattle.behaviour.specs.Pick.{unused}
 use Rattle.behaviour.specs.Sound.{messages, before}
+use Rattle.behaviour.specs.Ordered.{not-back, not-alike}
 use Rattle.aut.specs.declared.Read.{Read}
-use Rattle.aut.specs.Adding.{insert, has, unused, add, addMessage, check, checkMessage}
+use Rattle.aut.specs.Adding.{insert, has, add, addMessage, check, checkMessage}
 use Rattle.aut.specs.File.{finish}
+use Rattle.aut.specs.Contents.{judged}
 use Rattle.writer.specs.Text.{messageLine, markLine, messageLines, afterState, linesFrom}
-use Rattle.behaviour.specs.SoundLaws.{no}
-use Rattle.roundtrip.specs.AddAll.{addAll}
 
 -- the value with the messages a
 abbrev pub holding : ℕ → List ℕ → List ℕ → List Message → Behaviour
@@ -38,31 +39,6 @@ abbrev pub Ascend : List Message → List Message → Type 0
 Ascend a [] = Unit {0}
 Ascend a (m ∷ ms) = Below a m × Ascend (a ++ (m ∷ [])) ms
 
--- the two orders of x and m, from the tests
-pub order : (x m : Message) → before x m ≡ true → (x .from < m .from) ⊎ ((x .from ≡ m .from) × (x .name < m .name))
-order x m e = go (ltb (x .from) (m .from)) (eqb (x .from) (m .from)) (ltb (x .name) (m .name)) refl refl refl e
-  where
-    go : (s t u : Bool) → ltb (x .from) (m .from) ≡ s → eqb (x .from) (m .from) ≡ t → ltb (x .name) (m .name) ≡ u → (s || (t && u)) ≡ true
-        → (x .from < m .from) ⊎ ((x .from ≡ m .from) × (x .name < m .name))
-    go true t u p q r h = inl (ltb-true _ _ p)
-    go false true true p q r h = inr (eqb-true _ _ q, ltb-true _ _ r)
-    go false true false p q r h = no h
-    go false false u p q r h = no h
-
-pub not-back : (x m : Message) → before x m ≡ true → before m x ≡ false
-not-back x m e = go (order x m e)
-  where
-    go : (x .from < m .from) ⊎ ((x .from ≡ m .from) × (x .name < m .name)) → before m x ≡ false
-    go (inl h) = simp (le-ltb (m .from) (x .from) (omega arith), ne-eqb (m .from) (x .from) (omega arith))
-    go (inr h) = simp (le-ltb (m .from) (x .from) (omega arith), le-ltb (m .name) (x .name) (omega arith), eq-eqb (m .from) (x .from) (sym (h .0)))
-
-pub not-same : (x m : Message) → before x m ≡ true → (eqb (x .from) (m .from) && eqb (x .name) (m .name)) ≡ false
-not-same x m e = go (order x m e)
-  where
-    go : (x .from < m .from) ⊎ ((x .from ≡ m .from) × (x .name < m .name)) → (eqb (x .from) (m .from) && eqb (x .name) (m .name)) ≡ false
-    go (inl h) = simp (ne-eqb (x .from) (m .from) (omega arith))
-    go (inr h) = simp (eq-eqb (x .from) (m .from) (h .0), ne-eqb (x .name) (m .name) (omega arith))
-
 insert-last : (a : List Message) (m : Message) → Below a m → insert m a ≡ a ++ (m ∷ [])
 unfolding insert
 insert-last [] m h = refl
@@ -71,7 +47,7 @@ insert-last (x ∷ a) m h = rw (not-back x m (h .0), insert-last a m (h .1))
 has-not : (a : List Message) (m : Message) → Below a m → has (m .from) (m .name) a ≡ false
 unfolding has
 has-not [] m h = refl
-has-not (x ∷ a) m h = rw (not-same x m (h .0), has-not a m (h .1))
+has-not (x ∷ a) m h = rw (not-alike x m (h .0), has-not a m (h .1))
 
 pub rest-zero : (n : ℕ) → n < mostLines → drop 1 (replicate (mostLines - n) unused) ≡ replicate (mostLines - (n + 1)) unused
 rest-zero n h = let e : 96 - n ≡ suc (mostLines - (n + 1)) = omega arith in rw e
@@ -127,19 +103,19 @@ Settled s k [] (g ∷ gs) ms = ⊥
 Settled s k (m ∷ mk) [] ms = ⊥
 Settled s k (m ∷ mk) (g ∷ gs) ms = ((m ≡ 0) ⊎ ((m ≡ 1) × (k < s))) × Signed k g ms × Settled s (k + 1) mk gs (afterState k ms)
 
-add-step : (b d : Behaviour) (l : Line) (ls : List Line) (x : Read) → (check b l ≡ 0) × (add b l ≡ d) → ((p : ℕ) → addAll p d ls ≡ x) → (p : ℕ) → addAll p b (l ∷ ls) ≡ x
-unfolding addAll
+add-step : (b d : Behaviour) (l : Line) (ls : List Line) (x : Read) → (check b l ≡ 0) × (add b l ≡ d) → ((p : ℕ) → judged p d ls ≡ x) → (p : ℕ) → judged p b (l ∷ ls) ≡ x
+unfolding judged
 add-step b d l ls x e k p = rw (e .0, e .1) (k (p + 1))
 
 module _ (s k : ℕ) (p₀ q₀ r : List ℕ) (rest : List Line) (x : Read) (len : length q₀ ≡ k) where
   -- what comes after the messages of the state k
   abbrev Kont : ℕ → List Message → List Message → Type 0
-  Kont g l t = (a : List Message) → a ++ t ≡ l → Ascend a t → AllBetween s t → (p : ℕ) → addAll p (holding s p₀ (q₀ ++ g ∷ r) a) rest ≡ x
+  Kont g l t = (a : List Message) → a ++ t ≡ l → Ascend a t → AllBetween s t → (p : ℕ) → judged p (holding s p₀ (q₀ ++ g ∷ r) a) rest ≡ x
 
   one-message : (g q : ℕ) (m : Message) (ls : List Line) (a : List Message) → (g ≡ 1) ⊎ (g ≡ 2) → (q ≡ 0) ⊎ (q ≡ g) → m .from ≡ k
       → Below a m → length a < mostLines → m .from < s → m .to < s
-      → ((p : ℕ) → addAll p (holding s p₀ (q₀ ++ g ∷ r) (a ++ (m ∷ []))) ls ≡ x)
-      → (p : ℕ) → addAll p (holding s p₀ (q₀ ++ q ∷ r) a) (messageLine g m ∷ ls) ≡ x
+      → ((p : ℕ) → judged p (holding s p₀ (q₀ ++ g ∷ r) (a ++ (m ∷ []))) ls ≡ x)
+      → (p : ℕ) → judged p (holding s p₀ (q₀ ++ q ∷ r) a) (messageLine g m ∷ ls) ≡ x
   one-message g q m ls a sg z e b n f t c =
       let w : length q₀ ≡ m .from = len ∙ sym e in
       let h : getD (q₀ ++ q ∷ r) (m .from) 0 ≡ q = getD-at q₀ q r 0 (m .from) w in
@@ -153,7 +129,7 @@ module _ (s k : ℕ) (p₀ q₀ r : List ℕ) (rest : List Line) (x : Read) (len
       was h (inr z) = inr (h ∙ z)
 
   heads-more : (g : ℕ) → (g ≡ 1) ⊎ (g ≡ 2) → (ms a : List Message) → Ascend a ms → AllBetween s ms → length a + length ms ≤ mostLines → Kont g (a ++ ms) (afterState k ms)
-      → (p : ℕ) → addAll p (holding s p₀ (q₀ ++ g ∷ r) a) (messageLines k g ms ++ rest) ≡ x
+      → (p : ℕ) → judged p (holding s p₀ (q₀ ++ g ∷ r) a) (messageLines k g ms ++ rest) ≡ x
   unfolding messageLines afterState
   heads-more g sg [] a u v n c = c a refl tt tt
   heads-more g sg (m ∷ ms) a u v n c = go (eqb (m .from) k) refl c (λ h. heads-more g sg ms (a ++ (m ∷ [])) (u .1) (v .1) (fit) h)
@@ -162,28 +138,28 @@ module _ (s k : ℕ) (p₀ q₀ r : List ℕ) (rest : List Line) (x : Read) (len
       fit = rw length-append (omega arith)
 
       go : (t : Bool) → eqb (m .from) k ≡ t → Kont g (a ++ m ∷ ms) (if t (afterState k ms) (m ∷ ms))
-          → (Kont g ((a ++ (m ∷ [])) ++ ms) (afterState k ms) → (p : ℕ) → addAll p (holding s p₀ (q₀ ++ g ∷ r) (a ++ (m ∷ []))) (messageLines k g ms ++ rest) ≡ x)
-          → (p : ℕ) → addAll p (holding s p₀ (q₀ ++ g ∷ r) a) (if t (messageLine g m ∷ messageLines k g ms) [] ++ rest) ≡ x
+          → (Kont g ((a ++ (m ∷ [])) ++ ms) (afterState k ms) → (p : ℕ) → judged p (holding s p₀ (q₀ ++ g ∷ r) (a ++ (m ∷ []))) (messageLines k g ms ++ rest) ≡ x)
+          → (p : ℕ) → judged p (holding s p₀ (q₀ ++ g ∷ r) a) (if t (messageLine g m ∷ messageLines k g ms) [] ++ rest) ≡ x
       go true e c i =
           one-message g g m (messageLines k g ms ++ rest) a sg (inr refl) (eqb-true _ _ e) (u .0) (omega arith) (v .0 .0) (v .0 .1)
           (i (λ a′ f. c a′ (f ∙ append-assoc a (m ∷ []) ms)))
       go false e c i = c a refl u v
 
   state-added : (g : ℕ) (ms a : List Message) → Signed k g ms → Ascend a ms → AllBetween s ms → length a + length ms ≤ mostLines → Kont g (a ++ ms) (afterState k ms)
-      → (p : ℕ) → addAll p (holding s p₀ (q₀ ++ 0 ∷ r) a) (messageLines k g ms ++ rest) ≡ x
+      → (p : ℕ) → judged p (holding s p₀ (q₀ ++ 0 ∷ r) a) (messageLines k g ms ++ rest) ≡ x
   unfolding messageLines afterState
-  state-added g [] a o u v n c = λ p. subst (λ (y : ℕ). addAll p (holding s p₀ (q₀ ++ y ∷ r) a) rest ≡ x) o (c a refl tt tt p)
+  state-added g [] a o u v n c = λ p. subst (λ (y : ℕ). judged p (holding s p₀ (q₀ ++ y ∷ r) a) rest ≡ x) o (c a refl tt tt p)
   state-added g (m ∷ ms) a o u v n c = go (eqb (m .from) k) refl o c
     where
       fit : length (a ++ (m ∷ [])) + length ms ≤ mostLines
       fit = rw length-append (omega arith)
 
       go : (t : Bool) → eqb (m .from) k ≡ t → pick t ((g ≡ 1) ⊎ (g ≡ 2)) (g ≡ 0) → Kont g (a ++ m ∷ ms) (if t (afterState k ms) (m ∷ ms))
-          → (p : ℕ) → addAll p (holding s p₀ (q₀ ++ 0 ∷ r) a) (if t (messageLine g m ∷ messageLines k g ms) [] ++ rest) ≡ x
+          → (p : ℕ) → judged p (holding s p₀ (q₀ ++ 0 ∷ r) a) (if t (messageLine g m ∷ messageLines k g ms) [] ++ rest) ≡ x
       go true e o c =
           one-message g 0 m (messageLines k g ms ++ rest) a o (inl refl) (eqb-true _ _ e) (u .0) (omega arith) (v .0 .0) (v .0 .1)
           (heads-more g o ms (a ++ (m ∷ [])) (u .1) (v .1) fit (λ a′ f. c a′ (f ∙ append-assoc a (m ∷ []) ms)))
-      go false e o c = λ p. subst (λ (y : ℕ). addAll p (holding s p₀ (q₀ ++ y ∷ r) a) rest ≡ x) o (c a refl u v p)
+      go false e o c = λ p. subst (λ (y : ℕ). judged p (holding s p₀ (q₀ ++ y ∷ r) a) rest ≡ x) o (c a refl u v p)
 
 module _ (s k : ℕ) (p₀ r q : List ℕ) (a : List Message) (rest : List Line) (x : Read) (len : length p₀ ≡ k) where
   free-mark : k < s → check (holding s (p₀ ++ 0 ∷ r) q a) (record { from = k; label = Mark; to = k }) ≡ 0
@@ -194,17 +170,17 @@ module _ (s k : ℕ) (p₀ r q : List ℕ) (a : List Message) (rest : List Line)
   unfolding add
   put-mark m e = rw (set-at p₀ 0 r 1 k len, e)
 
-  mark-added : (m : ℕ) → (m ≡ 0) ⊎ ((m ≡ 1) × (k < s)) → ((p : ℕ) → addAll p (holding s (p₀ ++ m ∷ r) q a) rest ≡ x)
-      → (p : ℕ) → addAll p (holding s (p₀ ++ 0 ∷ r) q a) (markLine k m ++ rest) ≡ x
-  mark-added m (inl z) c p = rw (ne-eqb m 1 (omega arith)) (subst (λ (y : ℕ). addAll p (holding s (p₀ ++ y ∷ r) q a) rest ≡ x) z (c p))
+  mark-added : (m : ℕ) → (m ≡ 0) ⊎ ((m ≡ 1) × (k < s)) → ((p : ℕ) → judged p (holding s (p₀ ++ m ∷ r) q a) rest ≡ x)
+      → (p : ℕ) → judged p (holding s (p₀ ++ 0 ∷ r) q a) (markLine k m ++ rest) ≡ x
+  mark-added m (inl z) c p = rw (ne-eqb m 1 (omega arith)) (subst (λ (y : ℕ). judged p (holding s (p₀ ++ y ∷ r) q a) rest ≡ x) z (c p))
   mark-added m (inr z) c p =
       rw (eq-eqb m 1 (z .0))
       (add-step (holding s (p₀ ++ 0 ∷ r) q a) (holding s (p₀ ++ m ∷ r) q a) (record { from = k; label = Mark; to = k }) rest x (free-mark (z .1), put-mark m (z .0)) c p)
 
 pub lines-rebuilt : (s : ℕ) (mk gs : List ℕ) (k : ℕ) (ms a : List Message) (p₀ q₀ : List ℕ) → length p₀ ≡ k → length q₀ ≡ k
     → Settled s k mk gs ms → Ascend a ms → AllBetween s ms → length a + length ms ≤ mostLines
-    → (p : ℕ) → addAll p (holding s (p₀ ++ replicate (length mk) 0) (q₀ ++ replicate (length gs) 0) a) (linesFrom k mk gs ms) ≡ finish (holding s (p₀ ++ mk) (q₀ ++ gs) (a ++ ms))
-unfolding linesFrom addAll
+    → (p : ℕ) → judged p (holding s (p₀ ++ replicate (length mk) 0) (q₀ ++ replicate (length gs) 0) a) (linesFrom k mk gs ms) ≡ finish (holding s (p₀ ++ mk) (q₀ ++ gs) (a ++ ms))
+unfolding linesFrom judged
 lines-rebuilt s [] [] k ms a p₀ q₀ lp lq o u v n = λ p. ap {B = Read} (λ (y : List Message). finish (holding s (p₀ ++ []) (q₀ ++ []) y)) (sym (append-nil a) ∙ ap (λ (y : List Message). a ++ y) (sym o))
 lines-rebuilt s [] (g ∷ gs) k ms a p₀ q₀ lp lq o u v n = absurd o
 lines-rebuilt s (m ∷ mk) [] k ms a p₀ q₀ lp lq o u v n = absurd o
@@ -223,11 +199,11 @@ lines-rebuilt s (m ∷ mk) (g ∷ gs) k ms a p₀ q₀ lp lq o u v n =
     fit a′ e = omega (arith, ap length e, length-append a′ (afterState k ms), length-append a ms)
 
     last : (a′ : List Message) → a′ ++ afterState k ms ≡ a ++ ms → (p : ℕ)
-        → addAll p (holding s ((p₀ ++ (m ∷ [])) ++ replicate (length mk) 0) ((q₀ ++ (g ∷ [])) ++ replicate (length gs) 0) a′) (linesFrom (k + 1) mk gs (afterState k ms))
+        → judged p (holding s ((p₀ ++ (m ∷ [])) ++ replicate (length mk) 0) ((q₀ ++ (g ∷ [])) ++ replicate (length gs) 0) a′) (linesFrom (k + 1) mk gs (afterState k ms))
         ≡ finish (holding s ((p₀ ++ (m ∷ [])) ++ mk) ((q₀ ++ (g ∷ [])) ++ gs) (a′ ++ afterState k ms))
-        → addAll p (holding s (p₀ ++ m ∷ replicate (length mk) 0) (q₀ ++ g ∷ replicate (length gs) 0) a′) (linesFrom (k + 1) mk gs (afterState k ms)) ≡ x
+        → judged p (holding s (p₀ ++ m ∷ replicate (length mk) 0) (q₀ ++ g ∷ replicate (length gs) 0) a′) (linesFrom (k + 1) mk gs (afterState k ms)) ≡ x
     last a′ e p h =
-        ap₂ {C = Read} (λ (y z : List ℕ). addAll p (holding s y z a′) (linesFrom (k + 1) mk gs (afterState k ms)))
+        ap₂ {C = Read} (λ (y z : List ℕ). judged p (holding s y z a′) (linesFrom (k + 1) mk gs (afterState k ms)))
         (sym (append-assoc p₀ (m ∷ []) (replicate (length mk) 0))) (sym (append-assoc q₀ (g ∷ []) (replicate (length gs) 0)))
         ∙ h
         ∙ ap₂ {C = Read} (λ (y z : List ℕ). finish (holding s y z (a′ ++ afterState k ms))) (append-assoc p₀ (m ∷ []) mk) (append-assoc q₀ (g ∷ []) gs)

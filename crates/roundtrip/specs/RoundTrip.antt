@@ -16,15 +16,17 @@ use Rattle.tokens.specs.declared.Line.{Line}
 use Rattle.behaviour.specs.declared.Message.{Message}
 use Rattle.behaviour.specs.declared.Behaviour.{Behaviour}
 use Rattle.behaviour.specs.Limits.{mostStates, mostLines, mostBytes}
+use Rattle.behaviour.specs.Pick.{unused}
 use Rattle.behaviour.specs.Sound.{messages, total}
 use Rattle.aut.specs.declared.Read.{Read}
-use Rattle.aut.specs.Adding.{unused, bare}
+use Rattle.aut.specs.Adding.{bare}
 use Rattle.aut.specs.File.{markedFinished, finish, accept, file}
+use Rattle.aut.specs.Contents.{judged}
 use Rattle.text.specs.Spelling.{messageLabel, headText}
 use Rattle.writer.specs.Text.{messageLine, markLine, messageLines, afterState, linesFrom, linesText, lineCount, text}
 use Rattle.writer.specs.Lengths.{parts-length, text-few}
 use Rattle.roundtrip.specs.Lines.{Allowed}
-use Rattle.roundtrip.specs.AddAll.{addAll, Each, none, more, file-added}
+use Rattle.roundtrip.specs.AddAll.{Each, none, more, file-read}
 use Rattle.roundtrip.specs.Rebuild.{holding, AllBetween, Settled, lines-rebuilt}
 use Rattle.roundtrip.specs.Sorted.{Sorted, sorted-ascend, between-after}
 
@@ -106,7 +108,7 @@ round-trip b v =
     let short : length (headText (length ls) (b .states) ++ linesText ls) ≤ mostBytes =
     subst (λ (w : List ℕ). length w ≤ mostBytes) (sym (same t)) (text-few b (omega (arith, all))) in
     ap file (sym (same t))
-    ∙ file-added (b .states) ls (v .low) (v .high) (omega (arith, all, t)) (each-line (b .states) (v .high) (b .marks) (b .signs) 0 (v .used) (v .settled) (v .between)) short
+    ∙ file-read (b .states) ls (v .low) (v .high) (omega (arith, all, t)) (each-line (b .states) (v .high) (b .marks) (b .signs) 0 (v .used) (v .settled) (v .between)) short
     ∙ rebuilt
     ∙ ap {B = Read} (λ (x : Behaviour). finish x) (sym (v .is))
     ∙ rw (le-ltb (markedFinished 0 (b .marks) (b .signs)) mostStates (v .unfinished))
@@ -124,8 +126,8 @@ round-trip b v =
         → headText (length (linesFrom 0 (b .marks) (b .signs) (v .used))) (b .states) ++ linesText (linesFrom 0 (b .marks) (b .signs) (v .used)) ≡ text b
     same t = rw (t, firsts)
 
-    rebuilt : addAll 2 (bare (b .states)) (linesFrom 0 (b .marks) (b .signs) (v .used)) ≡ finish (holding (b .states) (b .marks) (b .signs) (v .used))
+    rebuilt : judged 2 (bare (b .states)) (linesFrom 0 (b .marks) (b .signs) (v .used)) ≡ finish (holding (b .states) (b .marks) (b .signs) (v .used))
     rebuilt =
-        subst (λ (n : ℕ). addAll 2 (holding (b .states) (replicate n 0) (replicate mostStates 0) []) (linesFrom 0 (b .marks) (b .signs) (v .used)) ≡ finish (holding (b .states) (b .marks) (b .signs) (v .used))) (v .ten-marks)
-        (subst (λ (n : ℕ). addAll 2 (holding (b .states) (replicate (length (b .marks)) 0) (replicate n 0) []) (linesFrom 0 (b .marks) (b .signs) (v .used)) ≡ finish (holding (b .states) (b .marks) (b .signs) (v .used))) (v .ten-signs)
+        subst (λ (n : ℕ). judged 2 (holding (b .states) (replicate n 0) (replicate mostStates 0) []) (linesFrom 0 (b .marks) (b .signs) (v .used)) ≡ finish (holding (b .states) (b .marks) (b .signs) (v .used))) (v .ten-marks)
+        (subst (λ (n : ℕ). judged 2 (holding (b .states) (replicate (length (b .marks)) 0) (replicate n 0) []) (linesFrom 0 (b .marks) (b .signs) (v .used)) ≡ finish (holding (b .states) (b .marks) (b .signs) (v .used))) (v .ten-signs)
         (lines-rebuilt (b .states) (b .marks) (b .signs) 0 (v .used) [] [] [] refl refl (v .settled) (sorted-ascend (v .used) (v .sorted)) (v .between) (let f = v .counted in omega arith) 2))

@@ -10,12 +10,14 @@ use lib.Dec.{eqb, ltb}
 use lib.ListN.{length, set}
 use Rattle.names.specs.If.{if}
 use Rattle.names.specs.Names.{isName}
+use Rattle.names.specs.Tests.{no}
 use Rattle.behaviour.specs.declared.Message.{Message}
 use Rattle.behaviour.specs.Sound.{before}
+use Rattle.behaviour.specs.Ordered.{Less, less, before-trans, alike, alike-not, one-first}
 use Rattle.aut.specs.Adding.{insert, has}
+use Rattle.aut.specs.Inserting.{not-there, length-insert}
 use Rattle.writer.specs.Text.{afterState}
-use Rattle.roundtrip.specs.Bools.{never}
-use Rattle.roundtrip.specs.Rebuild.{Below, Ascend, AllBetween, Signed, Settled, order}
+use Rattle.roundtrip.specs.Rebuild.{Below, Ascend, AllBetween, Signed, Settled}
 
 abbrev pub Above : Message → List Message → Type 0
 Above m [] = Unit {0}
@@ -24,40 +26,6 @@ Above m (x ∷ l) = (before m x ≡ true) × Above m l
 abbrev pub Sorted : List Message → Type 0
 Sorted [] = Unit {0}
 Sorted (m ∷ l) = Above m l × Sorted l
-
-abbrev pub Same : Message → Message → Bool
-Same x m = eqb (x .from) (m .from) && eqb (x .name) (m .name)
-
-comes : (a c : Message) → (a .from < c .from) ⊎ ((a .from ≡ c .from) × (a .name < c .name)) → before a c ≡ true
-comes a c (inl h) = simp (lt-ltb (a .from) (c .from) h)
-comes a c (inr h) = simp (le-ltb (a .from) (c .from) (omega arith), eq-eqb (a .from) (c .from) (h .0), lt-ltb (a .name) (c .name) (h .1))
-
-before-trans : (a b c : Message) → before a b ≡ true → before b c ≡ true → before a c ≡ true
-before-trans a b c p q = go (order a b p) (order b c q)
-  where
-    go : (a .from < b .from) ⊎ ((a .from ≡ b .from) × (a .name < b .name)) → (b .from < c .from) ⊎ ((b .from ≡ c .from) × (b .name < c .name)) → before a c ≡ true
-    go (inl h) (inl k) = comes a c (inl (omega arith))
-    go (inl h) (inr k) = comes a c (inl (omega arith))
-    go (inr h) (inl k) = comes a c (inl (omega arith))
-    go (inr h) (inr k) = comes a c (inr (omega arith, omega arith))
-
--- not before, and not the same: the other way round
-other-way : (m x : Message) → before m x ≡ false → Same x m ≡ false → before x m ≡ true
-other-way m x e d = go (ltb (m .from) (x .from)) (eqb (m .from) (x .from)) (ltb (m .name) (x .name)) refl refl refl e
-  where
-    same : m .from ≡ x .from → m .name ≡ x .name → before x m ≡ true
-    same p q = never (simp (eq-eqb (x .from) (m .from) (sym p), eq-eqb (x .name) (m .name) (sym q)) at d)
-
-    by-name : m .from ≡ x .from → x .name ≤ m .name → (t : Bool) → eqb (m .name) (x .name) ≡ t → before x m ≡ true
-    by-name p q true r = same p (eqb-true _ _ r)
-    by-name p q false r = let n : m .name ≡ x .name → ⊥ = eqb-false _ _ r in comes x m (inr (sym p, omega arith))
-
-    go : (s t u : Bool) → ltb (m .from) (x .from) ≡ s → eqb (m .from) (x .from) ≡ t → ltb (m .name) (x .name) ≡ u → (s || (t && u)) ≡ false → before x m ≡ true
-    go true t u p q r h = never h
-    go false true true p q r h = never h
-    go false true false p q r h = by-name (eqb-true _ _ q) (ltb-false _ _ r) (eqb (m .name) (x .name)) refl
-    go false false u p q r h =
-        let n : m .from ≡ x .from → ⊥ = eqb-false _ _ q in let l : x .from ≤ m .from = ltb-false _ _ p in comes x m (inl (omega arith))
 
 pub above-trans : (a b : Message) (l : List Message) → before a b ≡ true → Above b l → Above a l
 above-trans a b [] e h = tt
@@ -84,33 +52,18 @@ insert-above a m (x ∷ l) e h = go (before m x) (insert-above a x l (h .0) (h .
 above-has : (m : Message) (l : List Message) → Above m l → has (m .from) (m .name) l ≡ false
 unfolding has
 above-has m [] h = refl
-above-has m (x ∷ l) h = rw (differ, above-has m l (h .1))
-  where
-    differ : (eqb (x .from) (m .from) && eqb (x .name) (m .name)) ≡ false
-    differ = go (order m x (h .0))
-      where
-        go : (m .from < x .from) ⊎ ((m .from ≡ x .from) × (m .name < x .name)) → (eqb (x .from) (m .from) && eqb (x .name) (m .name)) ≡ false
-        go (inl k) = simp (ne-eqb (x .from) (m .from) (omega arith))
-        go (inr k) = simp (eq-eqb (x .from) (m .from) (sym (k .0)), ne-eqb (x .name) (m .name) (omega arith))
-
-has-parts : (m x : Message) (l : List Message) → has (m .from) (m .name) (x ∷ l) ≡ false → (Same x m ≡ false) × (has (m .from) (m .name) l ≡ false)
-unfolding has
-has-parts m x l h = go (Same x m) refl h
-  where
-    go : (t : Bool) → Same x m ≡ t → if t true (has (m .from) (m .name) l) ≡ false → (Same x m ≡ false) × (has (m .from) (m .name) l ≡ false)
-    go true e h = never h
-    go false e h = (e, h)
+above-has m (x ∷ l) h = rw (alike-not m x (h .0), above-has m l (h .1))
 
 pub insert-sorted : (m : Message) (l : List Message) → Sorted l → has (m .from) (m .name) l ≡ false → Sorted (insert m l)
 unfolding insert
 insert-sorted m [] s h = (tt, tt)
 insert-sorted m (x ∷ l) s h =
-    let d = has-parts m x l h in
+    let d = not-there (m .from) (m .name) x l h in
     go (before m x) refl (insert-sorted x l (s .1) (above-has x l (s .0))) (insert-sorted m l (s .1) (d .1)) (d .0)
   where
-    go : (t : Bool) → before m x ≡ t → Sorted (insert x l) → Sorted (insert m l) → Same x m ≡ false → Sorted (if t (m ∷ insert x l) (x ∷ insert m l))
+    go : (t : Bool) → before m x ≡ t → Sorted (insert x l) → Sorted (insert m l) → alike m x ≡ false → Sorted (if t (m ∷ insert x l) (x ∷ insert m l))
     go true e p q d = (insert-above m x l e (above-trans m x l e (s .0)), p)
-    go false e p q d = (insert-above x m l (other-way m x e d) (s .0), q)
+    go false e p q d = (insert-above x m l (one-first m x d e) (s .0), q)
 
 -- sorted is ascending
 abbrev BelowAll : List Message → List Message → Type 0
@@ -146,13 +99,7 @@ insert-between s m (x ∷ l) g h = go (before m x) (insert-between s x l (h .0) 
     go false p q = (h .0, q)
 
 pub insert-length : (m : Message) (l : List Message) → length (insert m l) ≡ length l + 1
-unfolding insert
-insert-length m [] = refl
-insert-length m (x ∷ l) = go (before m x) (insert-length x l) (insert-length m l)
-  where
-    go : (t : Bool) → length (insert x l) ≡ length l + 1 → length (insert m l) ≡ length l + 1 → length (if t (m ∷ insert x l) (x ∷ insert m l)) ≡ suc (length l) + 1
-    go true p q = omega arith
-    go false p q = omega arith
+insert-length m l = omega (arith, length-insert m l)
 
 -- states from k on
 abbrev pub AtLeast : ℕ → List Message → Type 0
@@ -165,9 +112,9 @@ least (m ∷ l) = (omega arith, least l)
 
 pub least-above : (k : ℕ) (x : Message) (l : List Message) → Above x l → k ≤ x .from → AtLeast k l
 least-above k x [] h p = tt
-least-above k x (y ∷ l) h p = (go (order x y (h .0)), least-above k x l (h .1) p)
+least-above k x (y ∷ l) h p = (go (less x y (h .0)), least-above k x l (h .1) p)
   where
-    go : (x .from < y .from) ⊎ ((x .from ≡ y .from) × (x .name < y .name)) → k ≤ y .from
+    go : Less x y → k ≤ y .from
     go (inl q) = omega arith
     go (inr q) = omega arith
 
@@ -196,13 +143,13 @@ not-low : (m x : Message) → before m x ≡ false → x .from ≤ m .from
 not-low m x e = go (ltb (m .from) (x .from)) refl e
   where
     go : (t : Bool) → ltb (m .from) (x .from) ≡ t → (t || (eqb (m .from) (x .from) && ltb (m .name) (x .name))) ≡ false → x .from ≤ m .from
-    go true p h = never h
+    go true p h = no (sym h)
     go false p h = ltb-false _ _ p
 
 low : (m x : Message) → before m x ≡ true → m .from ≤ x .from
-low m x e = go (order m x e)
+low m x e = go (less m x e)
   where
-    go : (m .from < x .from) ⊎ ((m .from ≡ x .from) × (m .name < x .name)) → m .from ≤ x .from
+    go : Less m x → m .from ≤ x .from
     go (inl h) = omega arith
     go (inr h) = omega arith
 

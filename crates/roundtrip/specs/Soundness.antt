@@ -10,13 +10,12 @@ use lib.Dec.{eqb, ltb}
 use lib.ListN.{length, replicate}
 use Rattle.names.specs.If.{if}
 use Rattle.names.specs.Names.{isName}
+use Rattle.names.specs.Tests.{no, both, joined}
 use Rattle.behaviour.specs.declared.Message.{Message}
+use Rattle.behaviour.specs.Pick.{unused}
 use Rattle.behaviour.specs.Sound.{leads, sorted, between, allBetween, blank, allBlank, speaks, signed, markable, settled}
-use Rattle.aut.specs.Adding.{unused}
 use Rattle.aut.specs.File.{markedFinished}
 use Rattle.writer.specs.Text.{afterState}
-use Rattle.behaviour.specs.SoundLaws.{no, both}
-use Rattle.roundtrip.specs.Bools.{joined}
 use Rattle.roundtrip.specs.Rebuild.{AllBetween, pick, Signed, Settled}
 use Rattle.roundtrip.specs.Sorted.{Above, Sorted, AtLeast, above-trans, least-above, after-sorted, between-after}
 

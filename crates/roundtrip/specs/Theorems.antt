@@ -12,9 +12,10 @@ use lib.Seq.{take-append-seam, drop-append-seam, length-take-le}
 use Rattle.behaviour.specs.declared.Message.{Message}
 use Rattle.behaviour.specs.declared.Behaviour.{Behaviour}
 use Rattle.behaviour.specs.Limits.{mostLines, mostBytes}
+use Rattle.behaviour.specs.Pick.{unused}
 use Rattle.behaviour.specs.Sound.{messages, sound}
 use Rattle.behaviour.specs.SoundLaws.{Sized, Parts, parts, whole}
-use Rattle.aut.specs.Adding.{unused, bare}
+use Rattle.aut.specs.Adding.{bare}
 use Rattle.aut.specs.File.{accept, file}
 use Rattle.writer.specs.declared.Written.the-variants.{Bytes}
 use Rattle.writer.specs.Text.{text}

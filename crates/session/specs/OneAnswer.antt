@@ -8,7 +8,7 @@ use native.Mathlib.Omega.{arith}
 use Rattle.behaviour.specs.declared.Behaviour.{Behaviour}
 use Rattle.behaviour.specs.Sound.{sound}
 use Rattle.stands.specs.Judgement.{compliant, stuck, Judged}
-use Rattle.compliance.specs.OneJudgement.{judged-unique}
+use Rattle.compliance.specs.OneJudgement.{unlike}
 use Rattle.verdict.specs.Answer.{BothSound}
 use Rattle.session.specs.declared.Session.{Session}
 use Rattle.session.specs.declared.Answer.{Answer}
@@ -19,9 +19,6 @@ use Rattle.session.specs.Opening.{Opens}
 clash : {P : Type 0} (c s : Behaviour) → BothSound c s → (sound c ≡ false) ⊎ (sound s ≡ false) → P
 clash c s b (inl e) = absurd (let z : _≡_ {A = ℕ} 0 1 = cc (b .client) in omega arith)
 clash c s b (inr e) = absurd (let z : _≡_ {A = ℕ} 0 1 = cc (b .server) in omega arith)
-
-unlike : {P : Type 0} (c s : Behaviour) (k e : ℕ) (w : List ℕ) → Judged c s (compliant k) → Judged c s (stuck e w) → P
-unlike c s k e w p q = let h = judged-unique c s (compliant k) (stuck e w) p q in absurd (let z : _≡_ {A = ℕ} 0 1 = cc in omega arith)
 
 -- of opening: by the one judgement of a pair
 pub opens-one : (c s : Behaviour) (a b : Answer) → Opens c s a → Opens c s b → a ≡ b

@@ -1,41 +1,30 @@
 -- Of sound values: steps keep a stand within what 15 asks.
 use mathlib.Core.Path.{_≡_, refl, subst}
 use mathlib.Core.Bool.{Bool, true, false, _&&_}
-use mathlib.Core.List.{List, [], _∷_}
 use mathlib.Core.Option.{none, some}
-use Prim.Native.Nat.{ℕ, _<_}
+use Prim.Native.Nat.{ℕ}
 use native.Mathlib.Omega.{arith}
 use borrow.Author.Tests.{lt-ltb}
 use lib.Dec.{ltb}
 use Rattle.names.specs.If.{if}
-use Rattle.behaviour.specs.declared.Message.{Message}
+use Rattle.names.specs.Tests.{both}
 use Rattle.behaviour.specs.declared.Behaviour.{Behaviour}
-use Rattle.behaviour.specs.Pick.{pick}
-use Rattle.behaviour.specs.Sound.{messages, between, allBetween}
-use Rattle.behaviour.specs.SoundLaws.{Parts, both, between-parts}
+use Rattle.behaviour.specs.Pick.{is}
+use Rattle.behaviour.specs.Sound.{messages}
+use Rattle.behaviour.specs.SoundLaws.{Parts}
 use Rattle.stands.specs.declared.ClientPoint.{ClientPoint}
 use Rattle.stands.specs.declared.ClientPoint.the-variants as client
 use Rattle.stands.specs.declared.ServerPoint.{ServerPoint}
 use Rattle.stands.specs.declared.ServerPoint.the-variants as server
 use Rattle.stands.specs.declared.Stand.{Stand}
-use Rattle.stands.specs.Stands.{is, among, marked, target, possible, moved, message, back, rollback, start}
+use Rattle.stands.specs.Stands.{among, marked, target, possible, moved, message, back, rollback, start}
 use Rattle.compliance.specs.SoundStand.{clientHeld, serverHeld}
+use Rattle.compliance.specs.Kept.{all-end, ends-pick}
 use Rattle.steps.specs.Tests.{held, isStand}
 
 -- a line leads to a state in range
-ends-pick : (s : ℕ) (t : Message → Bool) (l : List Message) → 0 < s → allBetween s l ≡ true → pick t (λ m. m .to) 0 l < s
-unfolding allBetween pick
-ends-pick s t [] h e = h
-ends-pick s t (m ∷ l) h e =
-    let a = both (between s m) (allBetween s l) e in
-    go (t m) (between-parts s m (a .0) .to) (ends-pick s t l h (a .1))
-  where
-    go : (u : Bool) → m .to < s → pick t (λ m. m .to) 0 l < s → if u (m .to) (pick t (λ m. m .to) 0 l) < s
-    go true a r = a
-    go false a r = r
-
 in-range : (b : Behaviour) (x n : ℕ) → Parts b → ltb (target b x n) (b .states) ≡ true
-in-range b x n z = lt-ltb (target b x n) (b .states) (ends-pick (b .states) (is x n) (messages b) (z .some-state) (z .between))
+in-range b x n z = lt-ltb (target b x n) (b .states) (ends-pick (b .states) (is x n) (messages b) (z .some-state) (all-end (b .states) (messages b) (z .between)))
 
 -- more than 15 asks, so that it stays: a return point is in range too
 abbrev pub returns : Behaviour → ℕ → Bool

@@ -6,11 +6,9 @@ use mathlib.Core.Option.{none, some}
 use mathlib.Core.Logic.{_⊎_, inl, inr, ⊎-elim}
 use Prim.Native.Nat.{ℕ}
 use native.Mathlib.Omega.{arith}
-use borrow.Author.Tests.{eqb-true, eq-eqb}
-use lib.Dec.{eqb}
 use Rattle.names.specs.If.{if}
+use Rattle.names.specs.Tests.{no, or-right, either}
 use Rattle.behaviour.specs.declared.Behaviour.{Behaviour}
-use Rattle.behaviour.specs.SoundLaws.{no, both}
 use Rattle.stands.specs.declared.ClientState.{ClientState}
 use Rattle.stands.specs.declared.ServerState.{ServerState}
 use Rattle.stands.specs.declared.ClientPoint.{ClientPoint}
@@ -19,46 +17,11 @@ use Rattle.stands.specs.declared.ServerPoint.{ServerPoint}
 use Rattle.stands.specs.declared.ServerPoint.the-variants as server
 use Rattle.stands.specs.declared.Stand.{Stand}
 use Rattle.stands.specs.Stands.{among, within, empty, finished, marked, takes, sends, offers, possible, moved, message, back, rollback, even, cause}
+use Rattle.compliance.specs.Among.{among-append, among-first, within-all, all-within}
 use Rattle.history.specs.Side.{Can, Possible}
 use Rattle.history.specs.Played.{has}
 use Rattle.history.specs.Meets.{Moved, Rolled}
 use Rattle.session.specs.Sides.{clientSide, serverSide, clientPoint, serverPoint, standing}
-
-or-true : (a b : Bool) → (a || b) ≡ true → (a ≡ true) ⊎ (b ≡ true)
-or-true true b e = inl refl
-or-true false b e = inr e
-
-or-right : (a b : Bool) → b ≡ true → (a || b) ≡ true
-or-right true b e = refl
-or-right false b e = e
-
--- names among two lists, and among all of one
-among-split : (n : ℕ) (l k : List ℕ) → among n (l ++ k) ≡ (among n l || among n k)
-unfolding among
-among-split n [] k = refl
-among-split n (m ∷ l) k = go (eqb n m) (among-split n l k)
-  where
-    go : (b : Bool) → among n (l ++ k) ≡ (among n l || among n k) → (b || among n (l ++ k)) ≡ ((b || among n l) || among n k)
-    go true e = refl
-    go false e = e
-
-among-first : (n : ℕ) (l : List ℕ) → among n (n ∷ l) ≡ true
-unfolding among
-among-first n l = rw (eq-eqb n n refl)
-
-within-all : (l k : List ℕ) → within l k ≡ true → (n : ℕ) → among n l ≡ true → among n k ≡ true
-unfolding within among
-within-all [] k e n f = no f
-within-all (m ∷ l) k e n f = let p = both (among m k) (within l k) e in go (or-true (eqb n m) (among n l) f) (p .0) (within-all l k (p .1) n)
-  where
-    go : (eqb n m ≡ true) ⊎ (among n l ≡ true) → among m k ≡ true → (among n l ≡ true → among n k ≡ true) → among n k ≡ true
-    go (inl g) a r = rw (eqb-true n m g) a
-    go (inr g) a r = r g
-
-all-within : (l k : List ℕ) → ((n : ℕ) → among n l ≡ true → among n k ≡ true) → within l k ≡ true
-unfolding within among
-all-within [] k f = refl
-all-within (m ∷ l) k f = rw (f m (among-first m l), all-within l k (λ n e. f n (or-right (eqb n m) (among n l) e)))
 
 -- one side may send it and the other takes all that side may send
 module _ (b : Behaviour) (x : ℕ) (d : Behaviour) (y n : ℕ) where
@@ -79,11 +42,11 @@ module _ (b : Behaviour) (x : ℕ) (d : Behaviour) (y n : ℕ) where
 module _ (c s : Behaviour) (x : ClientState) (y : ServerState) (n : ℕ) where
   among-possible : among n (possible c s x y) ≡ (among n (offers c (x .0) s (y .0)) || among n (offers s (y .0) c (x .0)))
   unfolding possible
-  among-possible = among-split n (offers c (x .0) s (y .0)) (offers s (y .0) c (x .0))
+  among-possible = among-append n (offers c (x .0) s (y .0)) (offers s (y .0) c (x .0))
 
   pub possible-can : among n (possible c s x y) ≡ true → Possible (clientSide c) x (serverSide s) y n
   unfolding Can
-  possible-can e = ⊎-elim (λ f. inl (offered-sent c (x .0) s (y .0) n f)) (λ f. inr (offered-sent s (y .0) c (x .0) n f)) (or-true (among n (offers c (x .0) s (y .0))) (among n (offers s (y .0) c (x .0))) (sym among-possible ∙ e))
+  possible-can e = ⊎-elim (λ f. inl (offered-sent c (x .0) s (y .0) n f)) (λ f. inr (offered-sent s (y .0) c (x .0) n f)) (either (among n (offers c (x .0) s (y .0))) (among n (offers s (y .0) c (x .0))) (sym among-possible ∙ e))
 
   pub can-possible : Possible (clientSide c) x (serverSide s) y n → among n (possible c s x y) ≡ true
   unfolding Can

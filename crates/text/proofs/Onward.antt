@@ -5,8 +5,9 @@ use Prim.Native.Nat.{ℕ, _+_}
 use native.Mathlib.Omega.{arith}
 use lib.ListN.{length, length-append}
 use lib.Seq.{sets}
+use Rattle.names.specs.Places.{sets-append}
 use Rattle.text.specs.Putting.{Short, Put}
-use Rattle.text.proofs.Puts.{sets-append, put-length}
+use Rattle.text.proofs.Puts.{put-length}
 
 -- of the text w, to be put into b₀ at at₀, the part v is left, to be put into b at at
 pub record Onward (b₀ : List ℕ) (at₀ : ℕ) (w : List ℕ) (b : List ℕ) (at : ℕ) (v : List ℕ) : Type 0 where

@@ -1,17 +1,14 @@
 -- Texts put one after the other.
 use mathlib.Core.Path.{_≡_, refl, sym, ap, _∙_}
 use mathlib.Core.List.{List, [], _∷_, _++_}
-use Prim.Native.Nat.{ℕ, suc, _+_, _<_, _≤_}
+use Prim.Native.Nat.{ℕ, _+_, _<_, _≤_}
 use native.Mathlib.Omega.{arith}
 use native.Mathlib.Numerals.{add-one}
 use native.Mathlib.Nat.{zero-add}
 use lib.ListN.{length, set, getD, take, drop, length-append}
-use lib.Seq.{sets, sets-eq, length-sets, set-out, take-suc, take-all, length-take-le}
+use lib.Seq.{sets-eq, length-sets, set-out, take-suc, take-all, length-take-le}
+use Rattle.names.specs.Places.{sets-append}
 use Rattle.text.specs.Putting.{Short, Put}
-
-pub sets-append : (l : List ℕ) (i : ℕ) (a b : List ℕ) → sets l i (a ++ b) ≡ sets (sets l i a) (i + length a) b
-sets-append l i [] b = let e : i + 0 ≡ i = omega arith in rw e
-sets-append l i (x ∷ a) b = let e : i + suc (length a) ≡ suc i + length a = omega arith in rw e (sets-append (set l i x) (suc i) a b)
 
 module _ {b : List ℕ} {at : ℕ} where
   pub put-nothing : Put b at [] at b

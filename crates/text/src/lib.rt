@@ -48,7 +48,7 @@ pub fn put_decimal(buf: &mut [u8], at: usize, k: usize, n: usize) -> usize
 }
 
 // The name `n` of at most `k` bytes.
-pub fn put_name(buf: &mut [u8], at: usize, k: usize, n: u64) -> usize
+fn put_name(buf: &mut [u8], at: usize, k: usize, n: u64) -> usize
     requires { ⌜ Short at (nameText k n) ⌝ }
     ensures { λ r. ⌜ Put (now (buf .entry)) at (nameText k n) r (now (buf .exit)) ⌝ }
 {
@@ -72,7 +72,7 @@ fn put_signed(buf: &mut [u8], at: usize, sign: u8, n: u64) -> usize
     put_name(buf, m, 8, n)
 }
 
-pub fn put_label(buf: &mut [u8], at: usize, l: Label) -> usize
+fn put_label(buf: &mut [u8], at: usize, l: Label) -> usize
     requires { ⌜ Short at (labelText l) ⌝ }
     ensures { λ r. ⌜ Put (now (buf .entry)) at (labelText l) r (now (buf .exit)) ⌝ }
 {

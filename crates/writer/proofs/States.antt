@@ -9,7 +9,7 @@ use Rattle.names.specs.Places.{here}
 use Rattle.tokens.specs.declared.Label.the-variants.{Mark}
 use Rattle.tokens.specs.declared.Line.{Line}
 use Rattle.behaviour.specs.declared.Message.{Message}
-use Rattle.behaviour.specs.Pick.{nil, next-used}
+use Rattle.behaviour.specs.Pick.{unused, next-used}
 use Rattle.text.specs.Spelling.{lineText}
 use Rattle.writer.specs.Text.{messageLine, markLine, messageLines, afterState, linesFrom, linesText}
 
@@ -32,25 +32,25 @@ module _ (k m : ℕ) where
 module _ (a : List Message) (n k g i : ℕ) where
   module _ (h : i < n) (l : n ≤ length a) where
     -- one of the state k
-    module _ (f : getD a i nil .from ≡ k) where
+    module _ (f : getD a i unused .from ≡ k) where
       pub message-here : linesText (messageLines k g (take (n - i) (drop i a)))
-          ≡ lineText (messageLine g (getD a i nil)) ++ linesText (messageLines k g (take (n - (i + 1)) (drop (i + 1) a)))
+          ≡ lineText (messageLine g (getD a i unused)) ++ linesText (messageLines k g (take (n - (i + 1)) (drop (i + 1) a)))
       unfolding messageLines linesText
-      message-here = rw (next-used n a i h l, eq-eqb (getD a i nil .from) k f)
+      message-here = rw (next-used n a i h l, eq-eqb (getD a i unused .from) k f)
 
       pub after-here : afterState k (take (n - i) (drop i a)) ≡ afterState k (take (n - (i + 1)) (drop (i + 1) a))
       unfolding afterState
-      after-here = rw (next-used n a i h l, eq-eqb (getD a i nil .from) k f)
+      after-here = rw (next-used n a i h l, eq-eqb (getD a i unused .from) k f)
 
     -- one of another state
-    module _ (f : getD a i nil .from ≡ k → ⊥) where
+    module _ (f : getD a i unused .from ≡ k → ⊥) where
       pub message-none : linesText (messageLines k g (take (n - i) (drop i a))) ≡ []
       unfolding messageLines linesText
-      message-none = rw (next-used n a i h l, ne-eqb (getD a i nil .from) k f)
+      message-none = rw (next-used n a i h l, ne-eqb (getD a i unused .from) k f)
 
       pub after-none : afterState k (take (n - i) (drop i a)) ≡ take (n - i) (drop i a)
       unfolding afterState
-      after-none = rw (next-used n a i h l, ne-eqb (getD a i nil .from) k f)
+      after-none = rw (next-used n a i h l, ne-eqb (getD a i unused .from) k f)
 
   pub message-end : n ≤ i → linesText (messageLines k g (take (n - i) (drop i a))) ≡ []
   unfolding messageLines linesText

@@ -6,7 +6,7 @@ use native.Mathlib.Omega.{arith}
 use lib.ListN.{length, getD, take, drop}
 use Rattle.behaviour.specs.declared.Message.{Message}
 use Rattle.behaviour.specs.Limits.{mostStates}
-use Rattle.behaviour.specs.Pick.{nil}
+use Rattle.behaviour.specs.Pick.{unused}
 use Rattle.text.specs.Spelling.{lineText}
 use Rattle.writer.specs.Text.{messageLine, markLine, messageLines, afterState, linesText}
 use Rattle.text.specs.Putting.{Short, Put}
@@ -37,10 +37,10 @@ pub tell-start : {b : List ℕ} {at : ℕ} (a : List Message) (n i k g : ℕ) �
 tell-start a n i k g h l = record { within = h; long = l; onward = onward-start; after = refl }
 
 module _ {b₀ : List ℕ} {at₀ : ℕ} {a : List Message} {n i k g : ℕ} {b : List ℕ} {at j : ℕ} (t : Telling b₀ at₀ a n i k g b at j) where
-  pub tell-short : j < n → getD a j nil .from ≡ k → Short at₀ (told a n k g i) → Short at (lineText (messageLine g (getD a j nil)))
-  tell-short h f s = onward-short (lineText (messageLine g (getD a j nil))) (told a n k g (j + 1)) (message-here a n k g j h (t .long) f) s (t .onward)
+  pub tell-short : j < n → getD a j unused .from ≡ k → Short at₀ (told a n k g i) → Short at (lineText (messageLine g (getD a j unused)))
+  tell-short h f s = onward-short (lineText (messageLine g (getD a j unused))) (told a n k g (j + 1)) (message-here a n k g j h (t .long) f) s (t .onward)
 
-  pub tell-more : {r : ℕ} {e : List ℕ} → j < n → getD a j nil .from ≡ k → Put b at (lineText (messageLine g (getD a j nil))) r e → Telling b₀ at₀ a n i k g e r (j + 1)
+  pub tell-more : {r : ℕ} {e : List ℕ} → j < n → getD a j unused .from ≡ k → Put b at (lineText (messageLine g (getD a j unused))) r e → Telling b₀ at₀ a n i k g e r (j + 1)
   tell-more h f p = record {
     within = omega arith;
     long = t .long;
@@ -48,7 +48,7 @@ module _ {b₀ : List ℕ} {at₀ : ℕ} {a : List Message} {n i k g : ℕ} {b :
     after = sym (after-here a n k g j h (t .long) f) ∙ t .after;
   }
 
-  pub tell-stop : j < n → (getD a j nil .from ≡ k → ⊥) → Told b₀ at₀ a n i k g b at j
+  pub tell-stop : j < n → (getD a j unused .from ≡ k → ⊥) → Told b₀ at₀ a n i k g b at j
   tell-stop h f = (onward-end (message-none a n k g j h (t .long) f) (t .onward), (t .within, sym (after-none a n k g j h (t .long) f) ∙ t .after))
 
   pub tell-end : n ≤ j → Told b₀ at₀ a n i k g b at j

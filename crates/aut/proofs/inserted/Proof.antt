@@ -26,8 +26,8 @@ mul-x c = search needs
 array-copy-out-x : tie.Need-array-copy-out-x Inv-loop μ-loop
 array-copy-out-x c = search needs
 
-earlier-requires : tie.Need-earlier-requires Inv-loop μ-loop
-earlier-requires c κs = search needs
+comes-before-requires : tie.Need-comes-before-requires Inv-loop μ-loop
+comes-before-requires c κs = search needs
 
 mul-out : tie.Need-mul-out Inv-loop μ-loop
 mul-out c = search needs
@@ -45,7 +45,7 @@ loop-again : tie.Need-loop-again Inv-loop μ-loop
 loop-again c =
     let p = c .before .before .before in
     let l = p .before .loop in (
-      l .inv .0 ∙ insert-in _ _ _ _ (p .loop-test .taken) (omega arith) (sym (c .before .earlier .ensures) ∙ c .if1 .taken),
+      l .inv .0 ∙ insert-in _ _ _ _ (p .loop-test .taken) (omega arith) (sym (c .before .comes-before .ensures) ∙ c .if1 .taken),
       length-set (l .out) (l .i) (l .held) ∙ l .inv .1,
       omega arith,
     )
@@ -60,7 +60,7 @@ loop-again-2 : tie.Need-loop-again-2 Inv-loop μ-loop
 loop-again-2 c =
     let p = c .before .before .before in
     let l = p .before .loop in
-    (l .inv .0 ∙ insert-by _ _ _ _ (p .loop-test .taken) (omega arith) (sym (c .before .earlier .ensures) ∙ c .if1 .left), l .inv .1, omega arith)
+    (l .inv .0 ∙ insert-by _ _ _ _ (p .loop-test .taken) (omega arith) (sym (c .before .comes-before .ensures) ∙ c .if1 .left), l .inv .1, omega arith)
 
 mul-out-2 : tie.Need-mul-out-2 Inv-loop μ-loop
 mul-out-2 c = search needs
@@ -80,7 +80,7 @@ inserted-spec =
     loop-holds
     mul-x
     array-copy-out-x
-    earlier-requires
+    comes-before-requires
     mul-out
     array-set-from-out
     add-i

@@ -5,7 +5,8 @@ use native.Mathlib.Omega.{arith}
 use lib.ListN.{length, getD, take, drop, set, length-set}
 use Rattle.names.specs.Names.{nameBytes}
 use Rattle.packing.specs.Value.{numberOf}
-use Rattle.packing.proofs.Reading.{room, room-all, room-more, number-more, number-done}
+use Rattle.names.proofs.Names.{room, room-all, room-more}
+use Rattle.packing.proofs.Reading.{number-more, number-done}
 use borrow.Author.Needs.{needs}
 use Rattle.packing.proofs.name_at.Statement.{statement}
 use Rattle.packing.proofs.name_at.Tie as tie

@@ -1,5 +1,5 @@
 -- `packing::put_messages` meets its contract.
-use Rattle.behaviour.specs.Pick.{nil}
+use Rattle.behaviour.specs.Pick.{unused}
 use borrow.Author.Needs.{needs}
 use mathlib.Core.Path.{_≡_, refl, sym, ap, _∙_}
 use mathlib.Core.List.{List}
