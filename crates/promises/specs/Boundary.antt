@@ -21,7 +21,7 @@ use Rattle.writer.specs.Written as writer
 use Rattle.stands.specs.declared.Stand.{Stand}
 use Rattle.stands.specs.Stands.{said}
 use Rattle.stands.specs.Stands as rules
-use Rattle.compliance.specs.Kept.{message-sound, rollback-sound}
+use Rattle.compliance.specs.Kept.{ranged, message-sound, rollback-sound}
 use Rattle.compliance.specs.SoundStand.{Sound}
 use Rattle.verdict.specs.declared.Verdict.{Verdict}
 use Rattle.verdict.specs.declared.Verdict.the-variants as verdict
@@ -34,7 +34,6 @@ use Rattle.session.specs.Opening as session
 use Rattle.report.specs.declared.Reported.{Reported}
 use Rattle.report.specs.declared.Reported.the-variants as reported
 use Rattle.report.specs.Reports.{Reports}
-use Rattle.report.proofs.Ranged.{ranged}
 use Rattle.packing.specs.Back.{unpacked-sized}
 use Rattle.packing.specs.BackStand.{packed-below}
 use Rattle.packing.specs.Numbers.{packedStand}
@@ -144,10 +143,10 @@ module _ (c s : List ℕ) (k : BothSound (unpacked c) (unpacked s)) where
 
   said-sound : (p q : Stand) → Sound C S p → (o : Option ℕ) → said C S p o ≡ some q → Sound C S q
   said-sound p q h none e = absurd (let z : _≡_ {A = ℕ} 0 1 = cc in omega arith)
-  said-sound p q h (some n) e = message-sound C S (ranged C (unpacked-sized c) (parts C (k .client))) (ranged S (unpacked-sized s) (parts S (k .server))) p h n q e
+  said-sound p q h (some n) e = message-sound C S (ranged C (unpacked-sized c) (k .client)) (ranged S (unpacked-sized s) (k .server)) p h n q e
 
   rolled-sound : (p q : Stand) → Sound C S p → rules.rollback p ≡ some q → Sound C S q
-  rolled-sound p q h e = rollback-sound C S (ranged C (unpacked-sized c) (parts C (k .client))) (ranged S (unpacked-sized s) (parts S (k .server))) p h q e
+  rolled-sound p q h e = rollback-sound C S (ranged C (unpacked-sized c) (k .client)) (ranged S (unpacked-sized s) (k .server)) p h q e
 
 -- of a message or rollback call
 by-call : (c s : List ℕ) (p : Stand) (n r : ℕ) (o : Option Stand) (a : Answer) → Row n 0 → Called (unpacked c) (unpacked s) p n o a

@@ -34,12 +34,13 @@ use Rattle.report.specs.Followed.{stuckText}
 use Rattle.report.proofs.Accepted.{accepted}
 use Rattle.report.proofs.Following.{followed-run}
 use Rattle.report.proofs.Sizes.{word-length, compliant-length, stuck-length}
-use Rattle.report.proofs.Ranged.{ranged, reached-sound}
+use Rattle.compliance.specs.Kept.{ranged}
+use Rattle.report.proofs.Ranged.{reached-sound}
 use Rattle.report.proofs.Few.{run-few}
 
 module _ (c s : Behaviour) (a : Sized c) (b : Sized s) (k : BothSound c s) where
   held : (w : List ℕ) (p : Stand) → after (pair c s) w ≡ some p → Sound c s p
-  held = reached-sound c s (ranged c a (parts c (k .client))) (ranged s b (parts s (k .server)))
+  held = reached-sound c s (ranged c a (k .client)) (ranged s b (k .server))
 
   -- "There are at most 110 × 110 = 12,100 stands of a pair"
   pub stands-few : (n : ℕ) → Reachable (pair c s) n → n ≤ 12100
