@@ -1,0 +1,10 @@
+pub mod Table
+pub mod Reading
+pub mod Values
+pub mod Sessions
+pub mod Verdicts
+pub mod Bounds
+pub mod Boundary
+pub mod Through
+pub mod Promises
+pub mod OneAnswer
