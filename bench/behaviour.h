@@ -1,10 +1,12 @@
-/* The behaviour value that the timed searches get, and what they answer. */
+/* The behaviour value that the timed searches work on, and how they are called: as the library's verdict is, with
+ * the same answers for every input. */
 #ifndef BEHAVIOUR_H
 #define BEHAVIOUR_H
 
+#include <stddef.h>
 #include <stdint.h>
 
-enum { STATES = 10, LINES = 96, STANDS = 12100, ROLLBACK = 255 };
+enum { STATES = 10, LINES = 96, NAME = 8, STANDS = 12100, ROLLBACK = 255 };
 
 /* A name is its bytes from the highest byte down, zeros after them, so that numbers compare as names do. */
 typedef struct {
@@ -22,17 +24,21 @@ typedef struct {
     message messages[LINES];
 } behaviour;
 
-/* What a search answers: the cause in the lowest two bits (0 is compliant), above it the number of stands or the
- * length of the run. The run buffer has room for 12,100 bytes; only the run itself is written. */
-static inline uint64_t compliant(uint64_t stands) { return stands << 2; }
-static inline uint64_t stuck(uint64_t cause, uint64_t length) { return length << 2 | cause; }
-
-typedef uint64_t verdict(const behaviour *client, const behaviour *server, uint8_t *run);
-
-verdict plain_search; /* tests the messages at each stand */
-verdict table_search; /* tests them once for each pair of states */
+/* A behaviour from its bytes; 0 if no accepted file gives it (refusal 13). */
+int take(const uint8_t *value, size_t length, behaviour *side);
 
 /* The rank of each client and server message's name among the different names of both. */
 void ranks(const behaviour *client, const behaviour *server, uint8_t *client_rank, uint8_t *server_rank);
+
+/* Answers as include/tyttmose.h has them. */
+static inline uint64_t refused(uint64_t number) { return number << 32; }
+static inline uint64_t compliant(uint64_t stands) { return stands; }
+static inline uint64_t stuck(uint64_t cause, uint64_t length) { return cause << 16 | length; }
+
+typedef uint64_t verdict(const uint8_t *client, size_t client_length, const uint8_t *server, size_t server_length,
+                         uint8_t *run, size_t run_length);
+
+verdict plain_search; /* tests the messages at each stand */
+verdict table_search; /* the library's algorithm: works them out once for each pair of states */
 
 #endif

@@ -1,9 +1,11 @@
-/* bench: checks that the searches agree with the plain reading on the timed pairs and on generated ones, then times
- * them in turns in one process. One line a pair; times are of the fastest batch, in nanoseconds a verdict.
- * bench texts FOLDER writes the pairs as files. */
+/* bench [SEEDS]: checks that the library's verdict and the C searches answer alike, on generated pairs and on the timed
+ * ones, then times them in turns in one process. One line a pair: nanoseconds of the fastest batch, and the library's
+ * time as a ratio to each search's. Exits with 1 where an answer differs or a ratio is over what is asked.
+ * bench texts FOLDER writes the timed pairs as files. */
 #define _POSIX_C_SOURCE 200809L
+#include "../include/tyttmose.h"
 #include "../tests/compare/gen.h"
-#include "../tests/plain/plain.h"
+#include "../tests/compare/plain_host.h"
 #include "behaviour.h"
 #include "pairs.h"
 
@@ -12,47 +14,38 @@
 #include <string.h>
 #include <time.h>
 
-/* A further search, such as the proved library's, is one more line here. */
 static const struct {
     const char *name;
     verdict *search;
+    double asked; /* the library's time is at most so many times this one's, but for case l, which is all set-up */
 } searches[] = {
-    {"plain_search", plain_search},
-    {"table_search", table_search},
+    {"library", tyttmose_verdict, 0},
+    {"plain", plain_search, 1.0},
+    {"table", table_search, 1.25},
 };
-enum { SEARCHES = sizeof searches / sizeof searches[0], BATCHES = 41 };
+enum { SEARCHES = sizeof searches / sizeof searches[0], BATCHES = 41, CASE_L = 3 };
 
-static void convert(const struct plain_behaviour *from, behaviour *to)
+typedef struct {
+    uint8_t client[TYTTMOSE_VALUE_SIZE], server[TYTTMOSE_VALUE_SIZE];
+} values;
+
+static int read_pair(const uint8_t *client, size_t client_length, const uint8_t *server, size_t server_length,
+                     values *pair)
 {
-    memset(to, 0, sizeof *to);
-    to->states = (uint8_t)from->states;
-    to->count = (uint8_t)from->count;
-    for (int state = 0; state < STATES; state++) {
-        to->marked[state] = (uint8_t)from->marked[state];
-        to->sign[state] = from->sign[state] == '?' ? 1 : from->sign[state] == '!' ? 2 : 0;
-    }
-    for (int i = 0; i < from->count; i++) {
-        uint64_t name = 0;
-        for (int k = 0; k < PLAIN_NAME; k++)
-            name = name << 8 | (uint8_t)from->message[i].name[k];
-        to->messages[i] = (message){name, (uint8_t)from->message[i].from, (uint8_t)from->message[i].to};
-    }
+    return tyttmose_refusal(tyttmose_read(client, client_length, pair->client, sizeof pair->client)) == 0 &&
+           tyttmose_refusal(tyttmose_read(server, server_length, pair->server, sizeof pair->server)) == 0;
 }
 
-/* All searches on one pair against the plain reading: answer, run, and bytes after it. */
-static int agree(const struct plain_behaviour *client, const struct plain_behaviour *server, const behaviour *c,
-                 const behaviour *s, uint64_t *wanted)
+/* All searches on one pair against the plain reading of tests/plain: answer, run, and bytes after it. */
+static int agree(const values *pair, size_t room)
 {
     static uint8_t run[STANDS], other[STANDS];
-    struct plain_verdict verdict;
     memset(run, 0xAA, sizeof run);
-    if (plain_verdict(client, server, run, sizeof run, &verdict).number != 0)
-        return 0;
-    *wanted = verdict.compliant ? compliant((uint64_t)verdict.stands)
-                                : stuck((uint64_t)verdict.cause, (uint64_t)verdict.length);
+    uint64_t wanted = plain_host_verdict(pair->client, sizeof pair->client, pair->server, sizeof pair->server, run, room);
     for (int k = 0; k < SEARCHES; k++) {
         memset(other, 0xAA, sizeof other);
-        if (searches[k].search(c, s, other) != *wanted || memcmp(run, other, sizeof run) != 0) {
+        if (searches[k].search(pair->client, sizeof pair->client, pair->server, sizeof pair->server, other, room) != wanted ||
+            memcmp(run, other, sizeof run) != 0) {
             printf("%s differs from the plain reading\n", searches[k].name);
             return 0;
         }
@@ -60,27 +53,26 @@ static int agree(const struct plain_behaviour *client, const struct plain_behavi
     return 1;
 }
 
+/* Also with too little room, and with a byte of a value changed. */
 static int agree_on_generated(uint64_t seeds)
 {
-    static struct gen_pair pair;
+    static struct gen_pair texts;
     long compared = 0;
     for (uint64_t seed = 1; seed <= seeds; seed++) {
-        struct plain_behaviour client, server;
-        behaviour c, s;
-        uint64_t wanted;
-        gen_pair(seed, &pair);
-        if (plain_read(pair.client.byte, pair.client.length, &client).number != 0 ||
-            plain_read(pair.server.byte, pair.server.length, &server).number != 0)
+        values pair;
+        gen_pair(seed, &texts);
+        if (!read_pair(texts.client.byte, texts.client.length, texts.server.byte, texts.server.length, &pair))
             continue;
-        convert(&client, &c);
-        convert(&server, &s);
-        if (!agree(&client, &server, &c, &s, &wanted)) {
+        uint64_t random = seed;
+        int same = agree(&pair, STANDS) && agree(&pair, (size_t)gen_below(&random, 4));
+        pair.server[gen_below(&random, TYTTMOSE_VALUE_SIZE)] ^= (uint8_t)(1 + gen_below(&random, 3));
+        if (!same || !agree(&pair, STANDS)) {
             printf("seed %llu\n", (unsigned long long)seed);
             return 0;
         }
         compared++;
     }
-    printf("searches agree with the plain reading on %ld generated pairs\n", compared);
+    printf("all answer alike on %ld generated pairs\n", compared);
     return 1;
 }
 
@@ -92,36 +84,49 @@ static double now(void)
     return (double)time.tv_sec * 1e9 + (double)time.tv_nsec;
 }
 
-static double batch(verdict *search, const behaviour *client, const behaviour *server, long times)
+static double batch(verdict *search, const values *pair, long times)
 {
     static uint8_t run[STANDS];
     static volatile uint64_t kept;
     double start = now();
     for (long i = 0; i < times; i++)
-        kept = search(client, server, run);
+        kept = search(pair->client, sizeof pair->client, pair->server, sizeof pair->server, run, sizeof run);
     (void)kept;
     return (now() - start) / (double)times;
 }
 
-/* Batches of about 10 ms each, the searches in turns, so that a slow moment of the machine meets all of them. */
-static void measure(const char *name, const behaviour *client, const behaviour *server, uint64_t answer)
+/* Batches of about 10 ms each, the searches in turns, so that a slow moment of the machine meets all of them. Answers
+ * how many ratios are over what is asked. Case l is all set-up; of the largest nothing is asked. */
+static int measure(const char *name, const values *pair)
 {
+    int set_up = strcmp(name, "case l") == 0, free = strcmp(name, "largest") == 0;
     double best[SEARCHES];
     long times[SEARCHES];
+    int over = 0;
     for (int k = 0; k < SEARCHES; k++) {
-        best[k] = batch(searches[k].search, client, server, 20);
+        best[k] = batch(searches[k].search, pair, 20);
         times[k] = 1 + (long)(1e7 / best[k]);
     }
     for (int round = 0; round < BATCHES; round++)
         for (int k = 0; k < SEARCHES; k++) {
-            double spent = batch(searches[k].search, client, server, times[k]);
+            double spent = batch(searches[k].search, pair, times[k]);
             if (spent < best[k])
                 best[k] = spent;
         }
-    printf("%-9s %-9s %6llu", name, answer & 3 ? "stuck" : "compliant", (unsigned long long)(answer >> 2));
+    printf("%-9s", name);
     for (int k = 0; k < SEARCHES; k++)
-        printf("  %12.0f", best[k]);
+        printf("  %8.0f", best[k]);
+    for (int k = 1; k < SEARCHES; k++) {
+        double ratio = best[0] / best[k], asked = set_up ? CASE_L : searches[k].asked;
+        if (free) {
+            printf("  %6.2f        ", ratio);
+            continue;
+        }
+        printf("  %6.2f of %.2f", ratio, asked);
+        over += ratio > asked;
+    }
     printf("\n");
+    return over;
 }
 
 static void write_text(const char *folder, int k, const char *side, const char *text)
@@ -138,6 +143,7 @@ static void write_text(const char *folder, int k, const char *side, const char *
 int main(int count, char **arguments)
 {
     static char client_text[PAIR_BYTES], server_text[PAIR_BYTES];
+    int over = 0;
     if (count == 3 && strcmp(arguments[1], "texts") == 0) {
         for (int k = 0; k < PAIRS; k++) {
             printf("%d %s\n", k, pair(k, client_text, server_text));
@@ -148,25 +154,23 @@ int main(int count, char **arguments)
     }
     if (!agree_on_generated(count == 2 ? strtoull(arguments[1], NULL, 10) : 3000))
         return 1;
-    printf("%-9s %-9s %6s", "pair", "verdict", "number");
+    printf("%-9s", "pair");
     for (int k = 0; k < SEARCHES; k++)
-        printf("  %12s", searches[k].name);
+        printf("  %5s ns", searches[k].name);
+    for (int k = 1; k < SEARCHES; k++)
+        printf("  library/%-6s", searches[k].name);
     printf("\n");
     for (int k = 0; k < PAIRS; k++) {
+        values values;
         const char *name = pair(k, client_text, server_text);
-        struct plain_behaviour client, server;
-        behaviour c, s;
-        uint64_t wanted;
-        if (plain_read((uint8_t *)client_text, strlen(client_text), &client).number != 0 ||
-            plain_read((uint8_t *)server_text, strlen(server_text), &server).number != 0) {
+        if (!read_pair((uint8_t *)client_text, strlen(client_text), (uint8_t *)server_text, strlen(server_text), &values)) {
             printf("%s is refused\n", name);
             return 1;
         }
-        convert(&client, &c);
-        convert(&server, &s);
-        if (!agree(&client, &server, &c, &s, &wanted))
+        if (!agree(&values, STANDS))
             return 1;
-        measure(name, &c, &s, wanted);
+        over += measure(name, &values);
     }
-    return 0;
+    printf("%d ratios over what is asked\n", over);
+    return over != 0;
 }

@@ -1,4 +1,4 @@
-/* Ranks of names, needed by both searches only once a bad stand is found. */
+/* Ranks of names, for the bytes of a run. */
 #include "behaviour.h"
 
 /* The rank of a name: how many different names of both sides are below it. */

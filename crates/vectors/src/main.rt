@@ -1,27 +1,32 @@
-// Runs the cases that data/index lists and prints one line a case. What it must print was written by hand.
+// Runs the cases that data/index lists, a line each; tries every prefix of the files that data/prefixes names; makes the session
+// calls of data/calls. What it must print was written by hand.
+mod calls;
+mod out;
+mod prefixes;
 mod words;
 
-use libc::STDOUT_FILENO;
+use aut::Read;
+use calls::Play;
+use out::print;
+use out::print_refusal;
 ghost use Prim.Native.Nat.{_<_};
 ghost use lib.ListN.{length};
 
-fn print(text: &[u8]) {
-    io::write_all(STDOUT_FILENO, text);
+fn read_named(path: &[u8]) -> Read {
+    let mut text = [0u8; 4097];
+    let n = files::load(path, &mut text);
+    aut::read_file(&text[..n])
 }
 
 // A single file: is it taken, or which refusal?
 fn run_file(path: &[u8]) {
-    let mut text = [0u8; 4097];
-    let n = files::load(path, &mut text);
-    let read = aut::read_file(&text[..n]);
+    let read = read_named(path);
     let refusal = read.refusal;
     if refusal.number == 0 {
         print(b"taken\n");
         return;
     }
-    io::print_decimal(STDOUT_FILENO, refusal.number as u64);
-    print(b" ");
-    io::print_decimal(STDOUT_FILENO, refusal.place as u64);
+    print_refusal(refusal);
     print(b"\n");
 }
 
@@ -80,17 +85,46 @@ fn run_case(line: &[u8]) {
     }
 }
 
-fn run_all(index: &[u8]) {
+// What the lines of a list are: cases, files whose prefixes are tried, or session calls.
+enum Lines {
+    Cases,
+    Files,
+    Calls,
+}
+
+// The pair and the session with which the next line's call is made.
+fn run_line(lines: Lines, p: Play, line: &[u8]) -> Play {
+    match lines {
+        Lines::Cases => {
+            run_case(line);
+            p
+        }
+        Lines::Files => {
+            prefixes::run(line);
+            p
+        }
+        Lines::Calls => calls::run_line(p, line),
+    }
+}
+
+fn run_all(list: &[u8], lines: Lines) {
+    let mut p = calls::pair(b"");
     let mut at = 0;
-    while at < index.len() {
-        let end = words::next(index, at, b'\n');
-        run_case(&index[at..end]);
+    while at < list.len() {
+        let end = words::next(list, at, b'\n');
+        p = run_line(lines, p, &list[at..end]);
         at = end + 1;
     }
 }
 
+fn run_list(path: &[u8], lines: Lines) {
+    let mut list = [0u8; 8192];
+    let n = files::load(path, &mut list);
+    run_all(&list[..n], lines);
+}
+
 fn main() {
-    let mut index = [0u8; 8192];
-    let n = files::load(b"index", &mut index);
-    run_all(&index[..n]);
+    run_list(b"index", Lines::Cases);
+    run_list(b"prefixes", Lines::Files);
+    run_list(b"calls", Lines::Calls);
 }

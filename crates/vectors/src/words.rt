@@ -1,4 +1,4 @@
-// Places in a line of the index.
+// Places in a line of a list.
 ghost use Prim.Native.Nat.{_≤_};
 ghost use lib.ListN.{length};
 ghost use Rattle.vectors.specs.Words.{Ahead};
@@ -16,4 +16,14 @@ pub fn next(s: &[u8], at: usize, b: u8) -> usize
         i += 1;
     }
     i
+}
+
+// What follows the first word and its space.
+pub fn after(line: &[u8]) -> &[u8] {
+    let a = next(line, 0, b' ');
+    if a < line.len() {
+        let b = a + 1;
+        return &line[b..];
+    }
+    &line[a..]
 }

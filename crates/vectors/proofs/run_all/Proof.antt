@@ -1,15 +1,22 @@
--- `vectors::run_all` is safe and ends: each line leaves less of the index.
+-- `vectors::run_all` is safe and ends: each line leaves less of the list.
 use Prim.Native.Nat.{_-_}
 use native.Mathlib.Omega.{arith}
+use borrow.Author.Needs.{needs}
 use lib.ListN.{length}
 use Rattle.vectors.proofs.run_all.Statement.{statement}
 use Rattle.vectors.proofs.run_all.Tie as tie
 
 abbrev Inv-loop : tie.InvT-loop
-Inv-loop index at₀ at = Unit {0}
+Inv-loop list lines p₀ at₀ p at = Unit {0}
 
 abbrev μ-loop : tie.MeasureT-loop
-μ-loop index at₀ at = length index - at
+μ-loop list lines p₀ at₀ p at = length list - at
+
+slice-aggregate-pair : tie.Need-slice-aggregate-pair Inv-loop μ-loop
+slice-aggregate-pair c = search needs
+
+pair-requires : tie.Need-pair-requires Inv-loop μ-loop
+pair-requires c κs = tt
 
 loop-holds : tie.Need-loop-holds Inv-loop μ-loop
 loop-holds c = tt
@@ -17,17 +24,17 @@ loop-holds c = tt
 next-requires : tie.Need-next-requires Inv-loop μ-loop
 next-requires c κs = omega arith
 
-sub-run-case : tie.Need-sub-run-case Inv-loop μ-loop
-sub-run-case c = omega arith
+sub-run-line : tie.Need-sub-run-line Inv-loop μ-loop
+sub-run-line c = omega arith
 
-part-run-case-start : tie.Need-part-run-case-start Inv-loop μ-loop
-part-run-case-start c = omega arith
+part-run-line-start : tie.Need-part-run-line-start Inv-loop μ-loop
+part-run-line-start c = omega arith
 
-part-run-case-end : tie.Need-part-run-case-end Inv-loop μ-loop
-part-run-case-end c = omega arith
+part-run-line-end : tie.Need-part-run-line-end Inv-loop μ-loop
+part-run-line-end c = omega arith
 
-run-case-requires : tie.Need-run-case-requires Inv-loop μ-loop
-run-case-requires c κs = tt
+run-line-requires : tie.Need-run-line-requires Inv-loop μ-loop
+run-line-requires c κs = tt
 
 add-at : tie.Need-add-at Inv-loop μ-loop
 add-at c = omega arith
@@ -47,12 +54,14 @@ run-all-spec =
     (tie.spec
     Inv-loop
     μ-loop
+    slice-aggregate-pair
+    pair-requires
     loop-holds
     next-requires
-    sub-run-case
-    part-run-case-start
-    part-run-case-end
-    run-case-requires
+    sub-run-line
+    part-run-line-start
+    part-run-line-end
+    run-line-requires
     add-at
     loop-less
     loop-again
