@@ -8,3 +8,4 @@ pub mod Update
 pub mod Grown
 pub mod Pushed
 pub mod Trace
+pub mod Moved

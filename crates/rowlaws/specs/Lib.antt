@@ -1,0 +1,4 @@
+pub mod Members
+pub mod Lined
+pub mod Full
+pub mod RowsFilled
