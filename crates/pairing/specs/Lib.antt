@@ -3,7 +3,6 @@ pub mod Numbered
 pub mod Rows
 pub mod Points
 pub mod Sides
-pub mod Tables
 pub mod OnDemand
 pub mod Sounds
 pub mod Judging
