@@ -251,7 +251,8 @@ fn is_settled(marks: PerState, signs: PerState, table: PerState) -> bool
     true
 }
 
-pub fn one(m: u8) -> usize
+// What a mark adds to the count.
+fn one(m: u8) -> usize
     ensures { λ r. ⌜ r ≡ if (eqb m 1) 1 0 ⌝ }
 {
     if m == 1 {
