@@ -1,3 +1,4 @@
+-- What `aut` means: its definitions and their laws.
 pub mod Adding
 pub mod File
 pub mod Inserting

@@ -1,3 +1,4 @@
+-- What `behaviour` means: its definitions and their laws.
 pub mod Limits
 pub mod Refusals
 pub mod Pick

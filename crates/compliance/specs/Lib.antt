@@ -1,3 +1,4 @@
+-- What `compliance` means: its definitions and their laws.
 pub mod Kinds
 pub mod Among
 pub mod Labels

@@ -1,3 +1,4 @@
+-- What `history` means: its definitions and their laws.
 pub mod Calls
 pub mod Side
 pub mod Point

@@ -1,3 +1,4 @@
+-- The laws that the proofs of `keeper` share.
 pub mod Lies
 pub mod Joins
 pub mod Lends

@@ -1,2 +1,3 @@
+-- The laws that the proofs of `names` share.
 pub mod Names
 mod Numbers

@@ -1,3 +1,4 @@
+-- What `names` means: its definitions and their laws.
 pub mod If
 pub mod Names
 pub mod Places

@@ -1,2 +1,3 @@
+-- The laws that the proofs of `packing` share.
 mod Storing
 mod Reading

@@ -1,3 +1,4 @@
+-- What `packing` means: its definitions and their laws.
 pub mod Value
 pub mod Numbers
 pub mod Back

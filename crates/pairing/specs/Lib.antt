@@ -1,3 +1,4 @@
+-- What `pairing` means: its definitions and their laws.
 pub mod Numbered
 pub mod Rows
 pub mod Tables

@@ -1,3 +1,4 @@
+-- The laws that the proofs of `report` share.
 pub mod Shortest
 pub mod Ranged
 pub mod Few

@@ -1,3 +1,4 @@
+-- What `report` means: its definitions and their laws.
 pub mod RunText
 pub mod Output
 pub mod Reports

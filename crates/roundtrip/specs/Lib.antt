@@ -1,3 +1,4 @@
+-- What `roundtrip` means: its definitions and their laws.
 pub mod Numbers
 pub mod Lines
 pub mod AddAll

@@ -1,3 +1,4 @@
+-- What `runs` means: its definitions and their laws.
 pub mod System
 pub mod Unique
 pub mod Rank

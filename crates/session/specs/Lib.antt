@@ -1,3 +1,4 @@
+-- What `session` means: its definitions and their laws.
 pub mod Answers
 pub mod Opening
 pub mod OneAnswer

@@ -1,2 +1,3 @@
+-- What `steps` means: its definitions and their laws.
 pub mod Next
 pub mod Tests

@@ -1,3 +1,4 @@
+-- The laws that the proofs of `text` share.
 pub mod Puts
 pub mod Digits
 pub mod Onward

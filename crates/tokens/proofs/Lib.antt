@@ -1,3 +1,4 @@
+-- The laws that the proofs of `tokens` share.
 mod Laws
 mod Digits
 mod Labels
