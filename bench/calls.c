@@ -133,7 +133,7 @@ static void measure(const char *on, const struct call *call)
             if (spent < best[k])
                 best[k] = spent;
         }
-    printf("%-9s %-22s %9.0f %11.0f %7.3f %7zu", names[call->function], on, best[0], best[1], best[0] / best[1],
+    printf("%-9s %-22s %9.0f %11.0f %8.4f %7zu", names[call->function], on, best[0], best[1], best[0] / best[1],
            stack_of(call));
     if (tyttmose_refusal(answer) != 0)
         printf("  refused %u", tyttmose_refusal(answer));
@@ -169,7 +169,7 @@ int main(void)
             return 1;
         }
     }
-    printf("%-9s %-22s %9s %11s %7s %7s\n", "call", "on", "library", "plain", "ratio", "stack");
+    printf("%-9s %-22s %9s %11s %8s %7s\n", "call", "on", "library", "plain", "ratio", "stack");
     for (int k = 0; k < PAIRS; k++)
         measure_read(on[k], client_text[k], strlen(client_text[k]));
     spaces(spaced);

@@ -22,11 +22,13 @@ else
 fi
 export CC RUNNER
 
-# library ROOT: LIBRARY is set to the static library, proved first; one given in the environment is taken as it is.
+# library ROOT: LIBRARY is set to the static library, proved and built first unless it is newer than all sources; one given
+# in the environment is taken as it is.
 library() {
     [ -n "${LIBRARY:-}" ] && return
-    mkdir -p "$1/target/log"
-    (cd "$1" && rt staticlib host >"target/log/staticlib.out" 2>&1) || { tail -n 5 "$1/target/log/staticlib.out" >&2; return 1; }
     LIBRARY=$(cd "$1" && pwd)/target/staticlib/libhost.a
     export LIBRARY
+    [ -f "$LIBRARY" ] && [ -z "$(find "$1/crates" "$1/crates.txt" -newer "$LIBRARY" -print -quit)" ] && return
+    mkdir -p "$1/target/log"
+    (cd "$1" && rt staticlib host >"target/log/staticlib.out" 2>&1) || { tail -n 5 "$1/target/log/staticlib.out" >&2; return 1; }
 }

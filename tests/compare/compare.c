@@ -1,19 +1,31 @@
 /* compare FIRST COUNT: makes the same calls of the library and of the plain reading on COUNT generated pairs, from seed
- * FIRST on, and compares every answer and every byte lent. Prints a pair on which they differ, and ends with 1. */
+ * FIRST on, and compares every answer and every byte lent. Prints a pair on which they differ, or on which one of them
+ * does not come back, and ends with 1; so it does if of many pairs a kind or a refusal number is never met. */
+#define _POSIX_C_SOURCE 200809L
 #include "gen.h"
 #include "plain_host.h"
 
 #include <tyttmose.h>
 
+#include <signal.h>
 #include <stdio.h>
 #include <stdlib.h>
 #include <string.h>
+#include <unistd.h>
 
 enum { ROOM = TYTTMOSE_REPORT_SIZE, GUARD = 64 };
 
 static struct gen_pair pair;
 static uint64_t seed;
-static long calls, differences, moves, answers[18], kinds[GEN_KINDS];
+static long calls, differences, messages, rollbacks, answers[18], kinds[GEN_KINDS];
+static int longest;
+
+/* The last session call, for a difference to tell. */
+static struct {
+    uint32_t session;
+    uint8_t name[16];
+    size_t length;
+} said;
 
 /* The buffers lent to both. After a call the same bytes must stand in both, those lent and some behind them. */
 static uint8_t ours[ROOM], plain[ROOM];
@@ -32,6 +44,24 @@ static void show(const char *side, const struct gen_text *text)
     printf("\n");
 }
 
+/* `compare SEED 1` makes the same calls again. */
+static void show_pair(void)
+{
+    printf("seed %llu, kind %s; last session %08x, last name '%.*s'\n", (unsigned long long)seed, gen_kind_name(pair.kind),
+           (unsigned)said.session, (int)said.length, (const char *)said.name);
+    show("client", &pair.client);
+    show("server", &pair.server);
+}
+
+/* A call that does not come back: it broke, or the time is up. */
+static void stop(int signal)
+{
+    printf("%s\n", signal == SIGALRM ? "the time is up" : "a call broke");
+    show_pair();
+    fflush(stdout);
+    _exit(1);
+}
+
 static void compare(const char *call, uint64_t answer, uint64_t wanted, size_t lent)
 {
     calls++;
@@ -42,10 +72,9 @@ static void compare(const char *call, uint64_t answer, uint64_t wanted, size_t l
         return;
     if (differences++ > 0)
         return;
-    printf("seed %llu, kind %s, %s: answer %llx, wanted %llx%s\n", (unsigned long long)seed, gen_kind_name(pair.kind), call,
-           (unsigned long long)answer, (unsigned long long)wanted, answer == wanted ? ", other bytes" : "");
-    show("client", &pair.client);
-    show("server", &pair.server);
+    printf("%s: answer %llx, wanted %llx%s\n", call, (unsigned long long)answer, (unsigned long long)wanted,
+           answer == wanted ? ", other bytes" : "");
+    show_pair();
 }
 
 static size_t some_room(uint64_t *random, size_t enough, size_t just)
@@ -95,15 +124,12 @@ static uint64_t both_judge(uint64_t *random, const uint8_t *client, const uint8_
     size_t length = tyttmose_count(wanted);
     if (wanted >> 32 != 0 || tyttmose_cause(wanted) == 0 || length == 0 || gen_below(random, 4) > 0)
         return wanted;
-    /* in a buffer that just fits the same run stands; in one that is shorter nothing */
-    static uint8_t run[TYTTMOSE_RUN_SIZE];
-    memcpy(run, plain, length);
-    lend(length);
-    memcpy(plain, run, length);
-    compare("verdict that just fits", tyttmose_verdict(client, size, server, size, ours, length), wanted, length);
-    lend(length);
-    compare("verdict too long", tyttmose_verdict(client, size, server, size, ours, length - 1),
-            (uint64_t)TYTTMOSE_TOO_LONG << 32, length);
+    for (size_t less = 0; less < 2; less++) {
+        lend(length);
+        uint64_t fits = plain_host_verdict(client, size, server, size, plain, length - less);
+        compare(less ? "verdict too long" : "verdict that just fits",
+                tyttmose_verdict(client, size, server, size, ours, length - less), fits, length);
+    }
     return wanted;
 }
 
@@ -117,6 +143,21 @@ static uint32_t any_session(uint64_t *random)
     return session;
 }
 
+/* One of the names that a side has at a state, and its length; 0 if it has none. */
+static size_t name_at(uint64_t *random, const uint8_t *value, unsigned state, uint8_t name[16])
+{
+    enum { FIRST = 2 + 2 * TYTTMOSE_STATES, EACH = 2 + TYTTMOSE_NAME_SIZE };
+    size_t length = 0;
+    for (int k = 0, found = 0; k < value[1]; k++) {
+        const uint8_t *message = value + FIRST + EACH * k;
+        if (message[0] != state || gen_below(random, ++found) > 0)
+            continue;
+        for (length = 0; length < TYTTMOSE_NAME_SIZE && message[2 + length] != 0; length++)
+            name[length] = message[2 + length];
+    }
+    return length;
+}
+
 /* Session calls from the opening on, now and then on any number. What a granted call hands back is the next call's. */
 static void both_walk(uint64_t *random, const uint8_t *client, const uint8_t *server, uint64_t verdict)
 {
@@ -128,21 +169,29 @@ static void both_walk(uint64_t *random, const uint8_t *client, const uint8_t *se
         wanted = plain_host_open(client, size, server, size);
     compare("open", tyttmose_open(client, size, server, size), wanted, 0);
     uint32_t session = (uint32_t)start;
-    int steps = verdict >> 32 == 0 ? 2 + gen_below(random, 10) : 1;
+    int steps = verdict >> 32 == 0 ? 2 + gen_below(random, 24) : 1, moved = 0;
     for (int k = 0; k < steps; k++) {
-        uint8_t name[16];
-        uint32_t from = gen_below(random, 10) == 0 ? any_session(random) : session;
+        said.session = gen_below(random, 10) == 0 ? any_session(random) : session;
+        said.length = 0;
         if (gen_below(random, 4) > 0) {
-            size_t length = gen_name(random, &pair, name);
-            wanted = plain_host_message(client, size, server, size, from, name, length);
-            compare("message", tyttmose_message(client, size, server, size, from, name, length), wanted, 0);
+            int asked = gen_below(random, 8);
+            if (asked < 3)
+                said.length = name_at(random, client, tyttmose_client_state(said.session), said.name);
+            else if (asked < 6)
+                said.length = name_at(random, server, tyttmose_server_state(said.session), said.name);
+            if (said.length == 0)
+                said.length = gen_name(random, &pair, said.name);
+            wanted = plain_host_message(client, size, server, size, said.session, said.name, said.length);
+            compare("message", tyttmose_message(client, size, server, size, said.session, said.name, said.length), wanted, 0);
+            messages += wanted >> 32 == 0;
         } else {
-            wanted = plain_host_rollback(client, size, server, size, from);
-            compare("rollback", tyttmose_rollback(client, size, server, size, from), wanted, 0);
+            wanted = plain_host_rollback(client, size, server, size, said.session);
+            compare("rollback", tyttmose_rollback(client, size, server, size, said.session), wanted, 0);
+            rollbacks += wanted >> 32 == 0;
         }
         if (wanted >> 32 == 0) {
             session = tyttmose_session(wanted);
-            moves++;
+            longest = ++moved > longest ? moved : longest;
         }
     }
 }
@@ -155,10 +204,13 @@ static void both_text(uint64_t *random)
     uint64_t wanted = plain_host_text(client->byte, client->length, server->byte, server->length, plain, room);
     compare("text", tyttmose_text(client->byte, client->length, server->byte, server->length, ours, room), wanted, room);
     if (wanted >> 32 == 0 && gen_below(random, 4) == 0) {
-        size_t short_of = (size_t)wanted - 1;
-        lend(short_of);
-        compare("text too long", tyttmose_text(client->byte, client->length, server->byte, server->length, ours, short_of),
-                (uint64_t)TYTTMOSE_TOO_LONG << 32, short_of);
+        for (size_t less = 0; less < 2; less++) {
+            room = (size_t)wanted - less;
+            lend(room);
+            uint64_t fits = plain_host_text(client->byte, client->length, server->byte, server->length, plain, room);
+            compare(less ? "text too long" : "text that just fits",
+                    tyttmose_text(client->byte, client->length, server->byte, server->length, ours, room), fits, room);
+        }
     }
 }
 
@@ -196,12 +248,28 @@ static void choose(uint64_t *random)
     kinds[pair.kind]++;
 }
 
+/* Of many pairs, all kinds of them and all refusal numbers are met. */
+static int met_all(void)
+{
+    int all = messages > 0 && rollbacks > 0;
+    for (int kind = 0; kind < GEN_KINDS; kind++)
+        all = all && kinds[kind] > 0;
+    for (int number = 0; number < 18; number++)
+        all = all && answers[number] > 0;
+    return all;
+}
+
 int main(int count, char **arguments)
 {
+    static const int breaks[] = {SIGSEGV, SIGBUS, SIGILL, SIGFPE, SIGABRT, SIGALRM};
     static uint8_t client[TYTTMOSE_VALUE_SIZE], server[TYTTMOSE_VALUE_SIZE];
+    enum { MANY = 20000 };
     if (count != 3)
         return 2;
     uint64_t first = strtoull(arguments[1], NULL, 10), pairs = strtoull(arguments[2], NULL, 10);
+    for (size_t k = 0; k < sizeof breaks / sizeof breaks[0]; k++)
+        signal(breaks[k], stop);
+    alarm((unsigned)(60 + pairs * 3 / 100)); /* a pair takes about half a millisecond, and ten times that under an emulator */
     for (seed = first; seed < first + pairs && differences == 0; seed++) {
         uint64_t random = seed * 0x9E3779B97F4A7C15u + 1;
         choose(&random);
@@ -214,13 +282,17 @@ int main(int count, char **arguments)
             both_write(&random, client, sizeof client);
         both_spoil(&random, gen_below(&random, 2) ? client : server, server);
     }
-    printf("%llu pairs, %ld calls, %ld of them granted moves of a session, %ld differences\n",
-           (unsigned long long)(seed - first), calls, moves, differences);
+    printf("%llu pairs, %ld calls, %ld differences; sessions moved by %ld messages and %ld rollbacks, one %d times\n",
+           (unsigned long long)(seed - first), calls, differences, messages, rollbacks, longest);
     for (int kind = 0; kind < GEN_KINDS; kind++)
         printf("%s%s %ld", kind > 0 ? ", " : "", gen_kind_name(kind), kinds[kind]);
     printf("\nanswers by number:");
     for (int number = 0; number < 18; number++)
         printf(" %d:%ld", number, answers[number]);
     printf("\n");
+    if (pairs >= MANY && differences == 0 && !met_all()) {
+        printf("not all kinds of pairs and refusal numbers were met\n");
+        return 1;
+    }
     return differences > 0;
 }

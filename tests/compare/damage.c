@@ -199,6 +199,29 @@ static void remove_line(uint64_t *random, struct gen_text *text)
         add_to_count(text, 1, -1);
 }
 
+/* A mark at every other state or so that has none: those that are finished are refused with 11. */
+static void add_marks(uint64_t *random, struct gen_text *text)
+{
+    for (int state = count_value(text, 2); state-- > 0;) {
+        char line[32], start[16];
+        size_t length = (size_t)snprintf(line, sizeof line, "(%d,\"ckp\",%d)\n", state, state), at = 0;
+        size_t begins = (size_t)snprintf(start, sizeof start, "(%d,\"ckp\"", state);
+        while (at + begins < text->length && memcmp(text->byte + at, start, begins) != 0)
+            at++;
+        if (at + begins >= text->length && state < 10 && gen_below(random, 2))
+            insert_line(random, text, line, length);
+    }
+}
+
+/* "none before a line's first": a space, a tab or a CR there. */
+static void blank_before_line(uint64_t *random, struct gen_text *text)
+{
+    size_t start, length;
+    int lines = lines_of(text);
+    if (lines > 0 && line_at(text, gen_below(random, lines), &start, &length))
+        insert(text, start, &" \t\r"[gen_below(random, 3)], 1);
+}
+
 static void change_count(uint64_t *random, struct gen_text *text)
 {
     static const char *odd[] = {"0", "1", "2", "9", "10", "11", "96", "97", "99999", "100000", "00", "01", "", "-1"};
@@ -255,7 +278,7 @@ void gen_damage(uint64_t *random, struct gen_text *text)
     uint8_t byte = gen_below(random, 3) ? (uint8_t)special[gen_below(random, (int)sizeof special - 1)]
                                         : (uint8_t)gen_next(random);
     size_t at = text->length == 0 ? 0 : (size_t)gen_below(random, (int)text->length);
-    switch (gen_below(random, 20)) {
+    switch (gen_below(random, 21)) {
     case 0:
         if (text->length > 0)
             text->byte[at] ^= (uint8_t)(1u << gen_below(random, 8));
@@ -281,7 +304,10 @@ void gen_damage(uint64_t *random, struct gen_text *text)
         insert(text, text->length, &byte, 1);
         break;
     case 6:
-        insert(text, at, " ", 1);
+        if (gen_below(random, 2))
+            insert(text, at, " ", 1);
+        else
+            blank_before_line(random, text);
         break;
     case 7:
         repeat_line(random, text);
@@ -314,6 +340,9 @@ void gen_damage(uint64_t *random, struct gen_text *text)
     case 15:
     case 16:
         change_label(random, text);
+        break;
+    case 17:
+        add_marks(random, text);
         break;
     default:
         add_line(random, text);

@@ -462,6 +462,26 @@ static void test_text(void)
     expect_text(CLIENT_G, "des (0,2,2)\n(0,\"?a\",1)\n(0,\"?a\",1)\n", "server 10 3\n");
 }
 
+/* No slices at all: a length of 0 with no pointer behind it. */
+static void test_nothing(void)
+{
+    current = "no slices";
+    call.function = READ;
+    expect_answer(tyttmose_read(NULL, 0, NULL, 0), refused(2, 1));
+    call.function = WRITE;
+    expect_answer(tyttmose_write(NULL, 0, NULL, 0), refused(13, 0));
+    call.function = VERDICT;
+    expect_answer(tyttmose_verdict(NULL, 0, NULL, 0, NULL, 0), refused(13, 0));
+    call.function = OPEN;
+    expect_answer(tyttmose_open(NULL, 0, NULL, 0), refused(13, 0));
+    call.function = MESSAGE;
+    expect_answer(tyttmose_message(NULL, 0, NULL, 0, 0xFF00FF00, NULL, 0), refused(13, 0));
+    call.function = ROLLBACK;
+    expect_answer(tyttmose_rollback(NULL, 0, NULL, 0, 0xFF00FF00), refused(13, 0));
+    call.function = TEXT;
+    expect_answer(tyttmose_text(NULL, 0, NULL, 0, NULL, 0), refused(12, 0));
+}
+
 /* Any bytes of any lengths: nothing but an answer, and no byte but those lent. */
 static void test_anything(void)
 {
@@ -501,6 +521,7 @@ int main(void)
     test_session();
     test_text();
     test_large();
+    test_nothing();
     test_anything();
     for (int k = 0; k < CALLS; k++) {
         printf("stack of %-8s %6zu bytes", functions[k].name, deepest[k]);

@@ -3,3 +3,6 @@ pub mod Calls
 pub mod OneAnswer
 pub mod Parts
 pub mod Sessions
+pub mod Told
+pub mod ReadTold
+pub mod Enough
