@@ -1,21 +1,10 @@
 /* runs FOLDER <INDEX: prints the ID and the run's bytes of every stuck pair of an index like
  * cases/data/index, and checks that bytes after the run and on "compliant" all bytes stay. */
+#include "folder.h"
 #include "plain.h"
 
 #include <stdio.h>
 #include <string.h>
-
-static void read_file(const char *folder, const char *name, struct plain_behaviour *behaviour)
-{
-    char path[1024];
-    uint8_t bytes[PLAIN_BYTES + 1];
-    snprintf(path, sizeof path, "%s/%s", folder, name);
-    FILE *file = fopen(path, "rb");
-    size_t length = file == NULL ? 0 : fread(bytes, 1, sizeof bytes, file);
-    if (file != NULL)
-        fclose(file);
-    plain_read(bytes, length, behaviour);
-}
 
 int main(int count, char **arguments)
 {
@@ -28,8 +17,8 @@ int main(int count, char **arguments)
         struct plain_verdict verdict;
         if (sscanf(line, "%255s %255s %255s", id, one, other) != 3)
             continue;
-        read_file(arguments[1], one, &client);
-        read_file(arguments[1], other, &server);
+        folder_read(arguments[1], one, &client);
+        folder_read(arguments[1], other, &server);
         memset(run, 200, sizeof run);
         if (plain_verdict(&client, &server, run, sizeof run, &verdict).number != 0)
             return 1;

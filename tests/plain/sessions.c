@@ -1,22 +1,11 @@
 /* sessions FOLDER <TABLE: makes the session calls of a table like cases/sessions.expected and prints the
  * table with the answers given. A granted call's session is the next call's; a refused one changes nothing. */
+#include "folder.h"
 #include "plain.h"
 
 #include <stdio.h>
 #include <stdlib.h>
 #include <string.h>
-
-static void read_file(const char *folder, const char *name, struct plain_behaviour *behaviour)
-{
-    char path[1024];
-    uint8_t bytes[PLAIN_BYTES + 1];
-    snprintf(path, sizeof path, "%s/%s", folder, name);
-    FILE *file = fopen(path, "rb");
-    size_t length = file == NULL ? 0 : fread(bytes, 1, sizeof bytes, file);
-    if (file != NULL)
-        fclose(file);
-    plain_read(bytes, length, behaviour);
-}
 
 static int return_point(const char *word)
 {
@@ -46,8 +35,8 @@ int main(int count, char **arguments)
         if (arrow == NULL) {
             fputs(line, stdout);
             if (sscanf(line, "pair %255s %255s", one, other) == 2) {
-                read_file(arguments[1], one, &client);
-                read_file(arguments[1], other, &server);
+                folder_read(arguments[1], one, &client);
+                folder_read(arguments[1], other, &server);
             } else if (sscanf(line, "at %255s %15s %255s %15s", one, third, other, fourth) == 4) {
                 stand = (struct plain_stand){atoi(one), return_point(third), atoi(other), return_point(fourth)};
             }

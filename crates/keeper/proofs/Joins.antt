@@ -26,7 +26,7 @@ use Rattle.session.proofs.Session.Laws as T′
 use Rattle.lines.proofs.Outcome as O
 use Rattle.lines.proofs.Outcome.Laws as O′
 use Rattle.keeper.proofs.kept as joiner
-use Rattle.keeper.proofs.Lies.{machS}
+use Rattle.lines.proofs.Parts.{machS}
 
 abbrev pub both : Session → Outcome → Kept
 both z r = record { session = z; outcome = r }

@@ -1,2 +1,3 @@
 pub mod Lies
 pub mod Joins
+pub mod Lends

@@ -63,7 +63,8 @@ use Rattle.keeper.proofs.kept.Symbol as joiner-def
 use Rattle.keeper.proofs.kept.Symbol.{name as #keeper·kept}
 use Rattle.keeper.proofs.kept.Met as joiner-thm
 use Rattle.keeper.proofs.Joins.{both, Joiner, on, goes-on, said-both}
-use Rattle.keeper.proofs.Lies.{machS, machB, lies-in, lies-out}
+use Rattle.lines.proofs.Parts.{machS, machB}
+use Rattle.keeper.proofs.Lies.{lies-in, lies-out}
 use Rattle.keeper.proofs.lend_message.Key.{name as #keeper·lend-message}
 use Rattle.keeper.proofs.lend_message as own
 use Rattle.keeper.proofs.lend_message.Statement as stated
