@@ -73,7 +73,7 @@ judged-few f g a b (stuck e r) j =
     let t = followed-run (file f .value) (file g .value) r 0 (j .0 .0 .node) (j .0 .0 .leads) in
     omega (arith, n, rw t at l)
 
-printed-few : (f g w : List ℕ) → Prints f g w → length w ≤ 327680
+pub printed-few : (f g w : List ℕ) → Prints f g w → length w ≤ 327680
 unfolding bytes
 printed-few f g w (client-refused n e) = omega (arith, ap length e, word-length (bytes "client") (file f .refusal .number) (file f .refusal .place))
 printed-few f g w (server-refused a n e) = omega (arith, ap length e, word-length (bytes "server") (file g .refusal .number) (file g .refusal .place))

@@ -14,7 +14,7 @@ use Rattle.tokens.specs.declared.Line.{Line}
 use Rattle.tokens.specs.declared.Head.{Head}
 use Rattle.behaviour.specs.declared.Behaviour.{Behaviour}
 use Rattle.behaviour.specs.Limits.{mostStates, mostLines, mostBytes}
-use Rattle.behaviour.specs.SoundLaws.{both}
+use Rattle.names.specs.Tests.{both}
 use Rattle.aut.specs.declared.Read.{Read}
 use Rattle.aut.specs.Adding.{bare, add, check}
 use Rattle.aut.specs.File.{refuse, accept, markedFinished, finish, next, lines, begin, file}

@@ -75,7 +75,7 @@ module _ (c s : Behaviour) (k : Sized c) (l : Sized s) (sounds : BothSound c s) 
       let f : y ≡ x = cc in
       omega (arith, ap (λ (v : ServerState). v .0) f, mark-below s l p (y .0) m, p .most-states)
 
-  small : (p : Stand) → Sound c s p → Small p
+  pub small : (p : Stand) → Sound c s p → Small p
   small p o = record {
     client = omega (arith, o .client, parts c (sounds .client) .most-states);
     clientpoint = client-below (p .clientpoint) (o .clientpoint);

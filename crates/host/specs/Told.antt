@@ -23,7 +23,8 @@ use Rattle.sides.specs.Numbers.{size, number, stand, stand-number, number-below
 use Rattle.verdict.specs.declared.Verdict.{Verdict}
 use Rattle.verdict.specs.declared.Verdict.the-variants as verdict
 use Rattle.verdict.specs.Answer.{BothSound, Unsound, TooLong, Says}
-use Rattle.report.proofs.Ranged.{ranged, reached-sound}
+use Rattle.compliance.specs.Kept.{ranged}
+use Rattle.report.proofs.Ranged.{reached-sound}
 use Rattle.report.proofs.Few.{run-few}
 use Rattle.packing.specs.Value.{unpacked}
 use Rattle.packing.specs.Back.{unpacked-sized}
@@ -43,10 +44,10 @@ small-cause false b d = omega arith
 
 module _ (c s : Behaviour) (k : Sized c) (l : Sized s) (sounds : BothSound c s) where
   held : (w : List ℕ) (p : Stand) → runs.after (pair c s) w ≡ some p → Sound c s p
-  held = reached-sound c s (ranged c k (parts c (sounds .client))) (ranged s l (parts s (sounds .server)))
+  held = reached-sound c s (ranged c k (sounds .client)) (ranged s l (sounds .server))
 
   -- "There are at most 110 × 110 = 12,100 stands of a pair"
-  stands-few : (n : ℕ) → Judged c s (compliant n) → n ≤ 12100
+  pub stands-few : (n : ℕ) → Judged c s (compliant n) → n ≤ 12100
   unfolding Judged runs.IsVerdict
   stands-few n j = omega (arith, mul-le-mul (side-most c k (parts c (sounds .client))) (side-most s l (parts s (sounds .server))), few)
     where
@@ -66,7 +67,7 @@ module _ (c s : Behaviour) (k : Sized c) (l : Sized s) (sounds : BothSound c s) 
   cause-most p = small-cause (empty (possible c s (p .client) (p .server))) (finished c (p .client .0)) (even p)
 
   -- a cause is 1 or 2
-  cause-told : (e : ℕ) (w : List ℕ) → Judged c s (stuck e w) → (0 < e) × (e ≤ 2)
+  pub cause-told : (e : ℕ) (w : List ℕ) → Judged c s (stuck e w) → (0 < e) × (e ≤ 2)
   unfolding Judged runs.IsVerdict
   cause-told e w j =
       let b = j .0 .0 in

@@ -34,12 +34,16 @@ use Rattle.session.specs.Opening as session
 use Rattle.report.specs.declared.Reported.{Reported}
 use Rattle.report.specs.declared.Reported.the-variants as reported
 use Rattle.report.specs.Reports.{Reports}
+use Rattle.report.proofs.Few.{run-few}
 use Rattle.packing.specs.Back.{unpacked-sized}
 use Rattle.packing.specs.BackStand.{packed-below}
 use Rattle.packing.specs.Numbers.{packedStand}
 use Rattle.packing.specs.Value.{valueBytes, unpacked}
 use Rattle.packing.specs.Value as packing
 use Rattle.host.specs.Numbers.{refusedNumber, writtenNumber, verdictNumber, reportedNumber, sessionNumber, sessionOf}
+use Rattle.host.specs.Enough.{printed-few}
+use Rattle.host.specs.Sessions as kept
+use Rattle.host.specs.Told.{stands-few, cause-told}
 use Rattle.host.specs.Calls.{Reads, Writes, Judges, Opens, Messages, RollsBack, Texts}
 use Rattle.promises.specs.Table
 use Rattle.promises.specs.Table.{Table as Row, InTable}
@@ -48,8 +52,6 @@ use Rattle.promises.specs.Values as values
 use Rattle.promises.specs.Values.{Writing, writing, judge-refused, report-granted, report-refused}
 use Rattle.promises.specs.Sessions as sessions
 use Rattle.promises.specs.Sessions.{Called, called, open-refused}
-use Rattle.promises.specs.Verdicts.{counted}
-use Rattle.promises.specs.Bounds.{stands-few, cause-few, steps-few, stand-small, text-few}
 
 -- Kept: what is lent is as it was
 pub data Answered (r : ℕ) (Kept : Type 0) : Type 0 where
@@ -111,14 +113,14 @@ unfolding Says
 c-judge c s run left r h = go (h .verdict) (h .says) (h .number)
   where
     go : (v : Verdict) → Says (unpacked c) (unpacked s) run v left → r ≡ verdictNumber v → Answered r (left ≡ run)
-    go (verdict.Compliant k) y i =
-        granted (omega (arith, stands-few (unpacked c) (unpacked s) (unpacked-sized c) (unpacked-sized s) (y .sounds) k (counted (unpacked c) (unpacked s) run k (y .judged))))
+    go (verdict.Compliant k) y i = granted (omega (arith, i, stands-few (unpacked c) (unpacked s) (unpacked-sized c) (unpacked-sized s) (y .sounds) k (y .judged)))
     go (verdict.Stuck e n) y i =
         granted (omega (
           arith,
-          cause-few (unpacked c) (unpacked s) (unpacked-sized c) (unpacked-sized s) (y .sounds) e (y .steps) (y .judged),
-          steps-few (unpacked c) (unpacked s) (unpacked-sized c) (unpacked-sized s) (y .sounds) e (y .steps) (y .judged),
+          i,
           y .long,
+          cause-told (unpacked c) (unpacked s) (unpacked-sized c) (unpacked-sized s) (y .sounds) e (y .steps) (y .judged) .1,
+          run-few (unpacked c) (unpacked s) e (y .steps) (y .sounds .client) (y .sounds .server) (unpacked-sized c) (unpacked-sized s) (y .judged),
         ))
     go (verdict.Refused f) y i = let t = judge-refused (unpacked c) (unpacked s) run left f y in refused f i (t .0) (t .1)
 
@@ -127,7 +129,7 @@ c-text f g out left r h = go (h .reported) (h .reports) (h .number)
   where
     go : (a : Reported) → Reports f g out a left → r ≡ reportedNumber a → Answered r (left ≡ out)
     go (reported.Bytes n) y i =
-        granted (report-granted f g out left n y (r < 4294967296) (λ e. omega (arith, e, text-few f g (y .text) (y .prints))))
+        granted (report-granted f g out left n y (r < 4294967296) (λ e. omega (arith, e, printed-few f g (y .text) (y .prints))))
     go (reported.Refused x) y i = let t = report-refused f g out x left y in refused x i (t .0) (t .1)
 
 -- where a granted session call leads, states are in range and return points marked
@@ -139,7 +141,7 @@ module _ (c s : List ℕ) (k : BothSound (unpacked c) (unpacked s)) where
   S = unpacked s
 
   pub small : (p : Stand) → Sound C S p → packedStand p < 4294967296
-  small p o = packed-below p (stand-small C S (unpacked-sized c) (unpacked-sized s) k p o)
+  small p o = packed-below p (kept.small C S (unpacked-sized c) (unpacked-sized s) k p o)
 
   said-sound : (p q : Stand) → Sound C S p → (o : Option ℕ) → said C S p o ≡ some q → Sound C S q
   said-sound p q h none e = absurd (let z : _≡_ {A = ℕ} 0 1 = cc in omega arith)

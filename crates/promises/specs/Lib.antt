@@ -3,7 +3,6 @@ pub mod Reading
 pub mod Values
 pub mod Sessions
 pub mod Verdicts
-pub mod Bounds
 pub mod Boundary
 pub mod Through
 pub mod Promises
