@@ -1,3 +1,4 @@
+-- What `host` means: its definitions and their laws.
 pub mod Numbers
 pub mod Calls
 pub mod OneAnswer

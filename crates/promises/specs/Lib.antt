@@ -1,3 +1,4 @@
+-- What `promises` means: its definitions and their laws.
 pub mod Table
 pub mod Reading
 pub mod Values

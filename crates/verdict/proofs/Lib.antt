@@ -1,1 +1,2 @@
+-- The laws that the proofs of `verdict` share.
 pub mod Answering
