@@ -24,9 +24,6 @@ typedef struct {
     message messages[LINES];
 } behaviour;
 
-/* A behaviour from its bytes; 0 if no accepted file gives it (refusal 13). */
-int take(const uint8_t *value, size_t length, behaviour *side);
-
 /* The rank of each client and server message's name among the different names of both. */
 void ranks(const behaviour *client, const behaviour *server, uint8_t *client_rank, uint8_t *server_rank);
 
@@ -37,6 +34,13 @@ static inline uint64_t stuck(uint64_t cause, uint64_t length) { return cause << 
 
 typedef uint64_t verdict(const uint8_t *client, size_t client_length, const uint8_t *server, size_t server_length,
                          uint8_t *run, size_t run_length);
+
+/* What a search makes of two values that are known to be sound. */
+typedef uint64_t judgement(const behaviour *client, const behaviour *server, uint8_t *run, size_t run_length);
+
+/* That of the two values taken from their bytes, or 13 if no accepted file gives one of them. */
+uint64_t taken(judgement *judge, const uint8_t *client, size_t client_length, const uint8_t *server,
+               size_t server_length, uint8_t *run, size_t run_length);
 
 verdict plain_search; /* tests the messages at each stand */
 verdict table_search; /* the library's algorithm: works them out once for each pair of states */

@@ -27,7 +27,8 @@ static uint64_t number(const uint8_t *byte)
     return name;
 }
 
-int take(const uint8_t *value, size_t length, behaviour *side)
+/* 0 if no accepted file gives the value. */
+static int take(const uint8_t *value, size_t length, behaviour *side)
 {
     if (length != VALUE)
         return 0;
@@ -63,4 +64,13 @@ int take(const uint8_t *value, size_t length, behaviour *side)
         if (side->marked[state] > speaks[state] || side->sign[state] > 2 || (side->sign[state] != 0) != speaks[state])
             return 0;
     return 1;
+}
+
+uint64_t taken(judgement *judge, const uint8_t *client, size_t client_length, const uint8_t *server,
+               size_t server_length, uint8_t *run, size_t run_length)
+{
+    behaviour c, s;
+    if (!take(client, client_length, &c) || !take(server, server_length, &s))
+        return refused(13);
+    return judge(&c, &s, run, run_length);
 }
