@@ -59,7 +59,7 @@ module _ (c s : Behaviour) (p : Stand) where
     where
       go : (b : Bool) → empty (possible c s (p .client) (p .server)) ≡ b → _≡_ {A = ℕ} (if b (if (finished c (p .client .0)) (if (even p) 0 2) 1) 0) 0
       go false e = refl
-      go true e = let h = f (none-yes e) in rw (h .0, even-of p (h .1))
+      go true e = let h = f (none-yes e) in let g : finished c (p .client .0) ≡ true = ap empty (h .0) in rw (g, even-of p (h .1))
 
   pub cause-fine : cause c s p ≡ 0 → ((n : ℕ) → message c s p n ≡ none) → Ended c p
   unfolding cause

@@ -1,5 +1,5 @@
 -- What moves by the steps alone and never comes to a bad stand meets demand 3.
-use mathlib.Core.Path.{_≡_, refl, ap}
+use mathlib.Core.Path.{_≡_, refl, _∙_, ap, subst}
 use mathlib.Core.Bool.{Bool, true, false}
 use mathlib.Core.List.{List}
 use mathlib.Core.Option.{Option, none, some}
@@ -129,7 +129,7 @@ module _ {A B : Type 0} (named : List ℕ → Option ℕ) (C : Side A) (S : Side
   rollable h e =
       let s = granted-some h rollback e in
       let q = k .rolled (after h) (s .0) (told h .good) (s .1) in
-      (at (s .0) .client, at (s .0) .server, rw (q .client) at (told h .client), rw (q .server) at (told h .server))
+      (at (s .0) .client, at (s .0) .server, subst (ClientPoint C S w h) (q .client) (told h .client), subst (ServerPoint C S w h) (q .server) (told h .server))
 
   by-message : (h : Calls) (n : List ℕ) (m : ℕ) → w .granted h (message n) ≡ true → named n ≡ some m
       → (w .client (h then message n) ≡ C .goes (w .client h) m) × (w .server (h then message n) ≡ S .goes (w .server h) m)
@@ -137,7 +137,7 @@ module _ {A B : Type 0} (named : List ℕ → Option ℕ) (C : Side A) (S : Side
       let s = granted-some h (message n) e in
       let p = k .moved (after h) (s .0) n (told h .good) (s .1) in
       let i : p .0 ≡ m = cc (p .1, f) in
-      rw (goes-to h (message n) (s .0) (s .1)) (rw i at (p .2 .client), rw i at (p .2 .server))
+      rw (goes-to h (message n) (s .0) (s .1)) (p .2 .client ∙ ap (C .goes (w .client h)) i, p .2 .server ∙ ap (S .goes (w .server h)) i)
 
   by-rollback : (h : Calls) (x : A) (y : B) → w .granted h rollback ≡ true → ClientPoint C S w h (some x) → ServerPoint C S w h (some y)
       → (w .client (h then rollback) ≡ x) × (w .server (h then rollback) ≡ y)
