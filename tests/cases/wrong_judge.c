@@ -29,12 +29,12 @@ static size_t bytes_of(const char *name, uint8_t *bytes)
 }
 
 /* The defects of what is printed. False if this is none of them. */
-static bool spoil(char **text, const char *server_name)
+static bool spoil(char **text, const char *client_name, const char *server_name)
 {
     char *last = *text + strlen(*text) - 1;
     bool refused = begins(*text, "client") || begins(*text, "server");
-    if (is("count")) { /* an invented number of stands for every client that is taken beside a.server */
-        if (strcmp(server_name, "a.server") == 0 && !begins(*text, "client"))
+    if (is("count")) { /* an invented number of stands for every single file that is taken as client beside a.server; pair a is right */
+        if (strcmp(client_name, "a.client") != 0 && strcmp(server_name, "a.server") == 0 && !refused)
             *text = "compliant 99999\n";
     } else if (is("silent")) { /* nothing at all of a refused server */
         if (begins(*text, "server"))
@@ -67,7 +67,7 @@ int main(int count, char **arguments)
     size_t client_length = bytes_of(arguments[1], client);
     size_t server_length = bytes_of(arguments[2], server);
     char *text = plain_judge(client, client_length, server, server_length);
-    bool spoilt = spoil(&text, arguments[2]);
+    bool spoilt = spoil(&text, arguments[1], arguments[2]);
     fputs(text, stdout);
     if (spoilt || is(""))
         return 0;
