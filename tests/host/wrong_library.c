@@ -219,5 +219,7 @@ uint64_t __wrap_tyttmose_text(const uint8_t *client, size_t client_length, const
         text[answer] = 0;
     if (is("text: a long text ends otherwise") && granted(answer) && answer > 1000)
         text[answer - 1] = '\r';
+    if (is("text: the last byte of the client's file is changed") && client_length > 0)
+        ((uint8_t *)client)[client_length - 1] ^= 1;
     return answer;
 }
