@@ -203,7 +203,9 @@ static const uint32_t start = (uint32_t)TYTTMOSE_NOWHERE << 8 | (uint32_t)TYTTMO
 void both_walk(uint64_t *random, struct values values, uint64_t verdict)
 {
     /* the plain opening is a verdict again, so most of its answers are taken from the one just given */
-    uint64_t wanted = verdict >> 32 != 0 ? verdict : tyttmose_cause(verdict) != 0 ? (uint64_t)TYTTMOSE_NOT_COMPLIANT << 32 : start;
+    uint64_t wanted = verdict;
+    if (verdict >> 32 == 0)
+        wanted = tyttmose_cause(verdict) != 0 ? (uint64_t)TYTTMOSE_NOT_COMPLIANT << 32 : start;
     if (gen_below(random, 16) == 0)
         wanted = plain_host_open(SLICES(values));
     compare("open", tyttmose_open(SLICES(values)), wanted, 0);
@@ -246,8 +248,8 @@ void both_text(uint64_t *random)
     }
 }
 
-/* A pair of which one value has some bytes changed: 13 is given for the same ones, and the rest answer alike. Its session calls come
- * without an opening. */
+/* A pair of which one value has some bytes changed: 13 is given for the same ones, and the rest answer alike. Its session
+ * calls come without an opening. */
 void both_spoil(uint64_t *random, struct values values)
 {
     static uint8_t spoilt[TYTTMOSE_VALUE_SIZE];

@@ -17,7 +17,7 @@
 struct call call;
 const char *current = "";
 
-/* Stack: docs/HOST.md promises that of a verdict, a message and a rollback. For the others a bound is set so that growth is seen. */
+/* The stack of a verdict, a message and a rollback is promised by docs/HOST.md; the other bounds make growth seen. */
 static const struct {
     const char *name;
     size_t most_stack;

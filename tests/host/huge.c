@@ -14,10 +14,10 @@ enum { FRONT = 1 << 16, LEAST = 32, LENT = 3, BEFORE = 0x33 };
 #define CASE_H "stuck 2 1\ndes (0,1,2)\n(0,\"?a\",1)\n"
 
 static uint8_t *front;
-static struct value client, server;
+static struct value client, server, server_h;
 
-/* Every length of the header, by the slice that it belongs to, and what the call answers and writes when that slice is huge. A lent
- * room that large is granted what it is granted otherwise. */
+/* Every length of the header, by the slice that it belongs to, and what the call answers and writes when that slice is
+ * huge. A lent room that large is granted what it is granted otherwise. */
 static const struct length {
     int function, slice;
     const char *name;
@@ -43,15 +43,16 @@ static const struct length {
     {TEXT, LENT, "text", sizeof CASE_H - 1, CASE_H},
 };
 
-/* The call that would be granted, were it not for the huge slice: on case h. */
+/* The call that would be granted, were it not for the huge slice: on case h if a run is to be written, else on case g. */
 static void set_granted(int function)
 {
     static uint8_t lent[TYTTMOSE_VALUE_SIZE];
+    const struct value *other = function == VERDICT ? &server_h : &server;
     if (function == READ || function == TEXT)
         set(function, CLIENT_G, strlen(CLIENT_G), SERVER_H, strlen(SERVER_H), sizeof lent);
     else
-        set(function, client.byte, sizeof client.byte, server.byte, sizeof server.byte, sizeof lent);
-    set_message(0xFF00FF00, "a", 1);
+        set(function, client.byte, sizeof client.byte, other->byte, sizeof other->byte, sizeof lent);
+    set_message(function == ROLLBACK ? 0x00010001 : 0xFF00FF00, "a", 1);
     call.lent = lent;
 }
 
@@ -63,31 +64,31 @@ static void protect(int how)
     }
 }
 
-/* The slice is at the front of the pages, and 2^power bytes longer than it should be, or so many bytes long. */
-static void try(const struct length *length, int power, size_t bytes)
+/* The slice is at the front of the pages and so many bytes long; or as many longer than it should be, a lent one than one
+ * byte too short. */
+static void try(const struct length *length, size_t bytes, int longer)
 {
-    char what[80];
+    static int by_hand;
+    static char what[80];
     set_granted(length->function);
-    size_t written = named(length->answer), more = 0;
+    size_t written = named(length->answer), seen = call.room;
+    size_t own = length->slice == LENT ? written - 1 : call.length[length->slice], huge = bytes + (longer ? own : 0);
+    snprintf(what, sizeof what, "a %s of %zu bytes", length->name, huge);
+    current = what;
     protect(PROT_READ | PROT_WRITE);
     memset(front, 0, FRONT);
-    if (length->slice < LENT) {
-        more = bytes == 0 ? call.length[length->slice] : 0;
-        memcpy(front, call.in[length->slice], call.length[length->slice]);
+    if (length->slice == LENT) {
+        call.lent = front;
+        call.room = huge;
+        seen = FRONT;
+    } else {
+        memcpy(front, call.in[length->slice], own);
         protect(PROT_READ);
         call.in[length->slice] = front;
-        call.length[length->slice] = bytes + more + (bytes == 0 ? (size_t)1 << power : 0);
-    } else {
-        more = bytes == 0 ? written - 1 : 0; /* cut to fewer bits, it is one short */
-        call.lent = front;
-        call.room = bytes + more + (bytes == 0 ? (size_t)1 << power : 0);
+        call.length[length->slice] = huge;
     }
-    snprintf(what, sizeof what, "a %s of %zu bytes", length->name,
-             length->slice < LENT ? call.length[length->slice] : call.room);
-    current = what;
-    size_t seen = length->slice < LENT ? call.room : FRONT;
     memset(call.lent, BEFORE, seen);
-    perform(power % 2);
+    perform(by_hand = !by_hand);
     expect_answer(call.answer, length->answer);
     expect(memcmp(call.lent, length->written, written) == 0, "the bytes written are others");
     for (size_t i = written; i < seen; i++)
@@ -101,7 +102,8 @@ void test_huge(int power)
 {
     int asked = power;
     client = value_of(CLIENT_G);
-    server = value_of(SERVER_H);
+    server = value_of(SERVER_G);
+    server_h = value_of(SERVER_H);
     do
         front = mmap(NULL, ((size_t)1 << power) + FRONT, PROT_READ, MAP_NORESERVE | MAP_PRIVATE | MAP_ANONYMOUS, -1, 0);
     while (front == MAP_FAILED && --power >= LEAST);
@@ -111,11 +113,11 @@ void test_huge(int power)
         return;
     }
     for (size_t k = 0; k < sizeof lengths / sizeof lengths[0]; k++) {
-        try(&lengths[k], 0, ((size_t)1 << 31));
-        try(&lengths[k], 1, ((size_t)1 << 32) - 1);
-        try(&lengths[k], 0, (size_t)1 << 32);
+        try(&lengths[k], (size_t)1 << 31, 0);
+        try(&lengths[k], ((size_t)1 << 32) - 1, 0);
+        try(&lengths[k], (size_t)1 << 32, 0);
         for (int more = LEAST; more <= power; more++)
-            try(&lengths[k], more, 0);
+            try(&lengths[k], (size_t)1 << more, 1);
     }
     printf("slices of 2^31 to 2^%d bytes (2^%d asked for), for each of %zu lengths\n", power, asked,
            sizeof lengths / sizeof lengths[0]);

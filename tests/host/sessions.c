@@ -1,4 +1,5 @@
-/* The session calls: case g, a pair whose sides have different return points, names that are none and numbers that are no stand. */
+/* The session calls: case g, a pair whose sides have different return points, names that are none, and numbers that are
+ * no stand. */
 #include "calls.h"
 #include "subjects.h"
 

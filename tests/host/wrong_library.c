@@ -99,6 +99,10 @@ uint64_t __wrap_tyttmose_write(const uint8_t *value, size_t value_length, uint8_
     CUT(write, text_length);
     if (is("write: the bytes lent decide") && text_length > 0 && text[0] >= 0x80)
         return (uint64_t)TYTTMOSE_TOO_LONG << 32;
+    uint8_t below;
+    __asm__ volatile("movb -3000(%%rsp), %0" : "=r"(below));
+    if (is("write: what is left on the stack decides") && below >= 0x80)
+        return (uint64_t)TYTTMOSE_TOO_LONG << 32;
     uint64_t answer = __real_tyttmose_write(value, value_length, text, text_length);
     if (is("write: a byte is written and then refused") && !granted(answer) && text_length > 0)
         text[0] = 'd';
