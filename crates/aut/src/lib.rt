@@ -1,4 +1,6 @@
 // Reading a description file: 01's "The description file", with its refusals 1 to 11.
+#![tactic(auto)]
+
 ghost use Rattle.std.specs.Prelude.{◌≡◌, ◌++◌, ◌&&◌, eqb, ltb, ◌+◌, ◌<◌, ◌≤◌, drop, take};
 ghost use Rattle.behaviour.specs.Limits.{most_states, most_lines};
 ghost use Rattle.aut.specs.Adding.{insert, has, bare, add, check, add_mark, add_message, check_message, check_label};
@@ -8,7 +10,7 @@ use behaviour::{BYTES, Behaviour, LINES, Message, Messages, PerState, Refusal, S
 use tokens::{Headed, Label, Line, Lined};
 
 // What reading gives. A refusal of number 0: the file is taken, and the value is its behaviour.
-#[derive(Drop)]
+#[derive(Clone, Copy)]
 pub struct Read {
     pub refusal: Refusal,
     pub value: Behaviour,

@@ -1,4 +1,6 @@
 // The behaviour value: a description's states, marks and messages, sorted; and the refusal.
+#![tactic(auto)]
+
 ghost use Rattle.std.specs.Prelude.{◌≡◌, List, ◌&&◌, ◌+◌, ◌≤◌, leb, eqb, length, get_or, take};
 ghost use Rattle.names.specs.If.{if};
 ghost use Rattle.behaviour.specs.declared.Message.{Message};
@@ -18,7 +20,7 @@ pub const LINES: usize = 96;
 pub const BYTES: usize = 4096;
 
 // A line with ?name or !name. The name is one number, its first byte highest.
-#[derive(Drop)]
+#[derive(Clone, Copy)]
 pub struct Message {
     pub name: u64,
     pub from: u8,
@@ -32,7 +34,7 @@ pub type Messages = [Message; LINES];
 // marks: 1 at a marked state. signs: 1 at a state that takes, 2 at one that sends, 0 at a finished one.
 // The first count messages are used; unused places are zero. The messages come first: behind smaller fields there would be a gap before
 // them, and LLVM would copy them twice where a value is made.
-#[derive(Drop)]
+#[derive(Clone, Copy)]
 pub struct Behaviour {
     pub messages: Messages,
     pub states: u8,
@@ -42,7 +44,7 @@ pub struct Behaviour {
 }
 
 // A refusal's number and place, from 01's table.
-#[derive(Drop)]
+#[derive(Clone, Copy)]
 pub struct Refusal {
     pub number: u8,
     pub place: u16,

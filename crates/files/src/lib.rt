@@ -1,4 +1,6 @@
 // Reading files, and the report on two of them.
+#![tactic(auto)]
+
 ghost use Rattle.io.specs.Counts.{IsPrefixLen};
 
 use report::Reported;

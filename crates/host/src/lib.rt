@@ -1,4 +1,6 @@
 // The functions that C calls: numbers and byte slices only. docs/HOST.md has every number; include/tyttmose.h declares them.
+#![tactic(auto)]
+
 ghost use Rattle.std.specs.Prelude.{◌≡◌};
 ghost use Rattle.host.specs.Numbers.{refused_number, written_number, verdict_number, reported_number, session_number, session_of};
 ghost use Rattle.host.specs.Calls.{Reads, Writes, Judges, Opens, Messages, RollsBack, Texts};

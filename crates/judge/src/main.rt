@@ -1,4 +1,6 @@
 // The verdict program: the report on the two files that its arguments name. All of it is worked out in `report`.
+#![tactic(auto)]
+
 use libc::STDOUT_FILENO;
 
 // A run has fewer than 12,100 steps, and the line of a step at most 26 bytes: every report fits.

@@ -1,5 +1,7 @@
 // A line keeper. It holds one session record per open line, lends each to be updated by the calls of `lines`, and plays a
 // script of calls on two lines; for every call it prints what was said and what the record then holds.
+#![tactic(auto)]
+
 ghost use Rattle.std.specs.Prelude.{◌≡◌};
 ghost use Rattle.session.specs.Answers.{messaged, rolled_back};
 ghost use Rattle.lines.specs.Lent.{kept_of, OpensInto};
@@ -11,7 +13,7 @@ use session::Session;
 use stands::{ClientPoint, ClientState, ServerPoint, ServerState, Stand};
 
 // An open line: its number, its pair and its record.
-#[derive(Drop)]
+#[derive(Clone, Copy)]
 struct Line {
     number: u8,
     client: Behaviour,

@@ -1,4 +1,6 @@
 // The line keeper's calls: one session record per open line, lent to be updated. Thin walks over the calls by value.
+#![tactic(auto)]
+
 ghost use Rattle.std.specs.Prelude.{◌≡◌};
 ghost use Rattle.session.specs.Answers.{messaged, rolled_back};
 ghost use Rattle.lines.specs.Lent.{kept_of, OpensInto};
@@ -7,14 +9,14 @@ use behaviour::{Behaviour, Refusal};
 use session::{Answer, Session};
 
 // What a call on a lent record says.
-#[derive(Drop)]
+#[derive(Clone, Copy)]
 pub enum Outcome {
     Granted,
     Refused(Refusal),
 }
 
 // The record after a call, and what the call says.
-#[derive(Drop)]
+#[derive(Clone, Copy)]
 pub struct Kept {
     pub session: Session,
     pub outcome: Outcome,

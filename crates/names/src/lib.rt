@@ -1,4 +1,6 @@
 // A name as bytes and as one number.
+#![tactic(auto)]
+
 ghost use Rattle.std.specs.Prelude.{◌≡◌, drop};
 ghost use Rattle.names.specs.Names.{is_name_byte, name_number, full, is_name};
 

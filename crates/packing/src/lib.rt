@@ -1,4 +1,6 @@
 // A behaviour value as bytes and a stand as one number: how they pass through C. docs/HOST.md has every number.
+#![tactic(auto)]
+
 ghost use Rattle.std.specs.Prelude.{◌≡◌, ◌+◌, ◌*◌, ◌≤◌, ◌<◌, leb, length, get_or, drop, take, replicate};
 ghost use Rattle.std.proofs.lemmas.List.Edits.{sets};
 ghost use Rattle.names.specs.Names.{name_bytes};

@@ -1,4 +1,6 @@
 // The verdict program's whole output for two files.
+#![tactic(auto)]
+
 ghost use Rattle.std.specs.Prelude.{◌≡◌, ◌∷◌, [], ◌≤◌, ◌<◌, ◌+◌, length, get_or, take};
 ghost use Rattle.stands.specs.Stands.{alphabet};
 ghost use Rattle.text.specs.Spelling.{decimal, tens, label_text, message_label};
@@ -21,7 +23,7 @@ use verdict::Verdict;
 const ROLLBACK: u8 = 255;
 
 // The number of bytes written, or the refusal.
-#[derive(Drop)]
+#[derive(Clone, Copy)]
 pub enum Reported {
     Bytes(u32),
     Refused(Refusal),

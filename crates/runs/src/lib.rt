@@ -1,1 +1,2 @@
 // Runs over any step system: definitions and laws, no code.
+#![tactic(auto)]

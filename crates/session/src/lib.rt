@@ -1,4 +1,6 @@
 // Sessions by value of pairs that may be joined. A call takes a session and the pair, and hands the next session back.
+#![tactic(auto)]
+
 ghost use Rattle.std.specs.Prelude.{◌≡◌};
 ghost use Rattle.session.specs.declared.Answer.TheVariants as answer;
 ghost use Rattle.session.specs.Answers.{refused, fault, by_step, messaged, rolled_back};
@@ -10,13 +12,13 @@ use steps::Next;
 use verdict::Verdict;
 
 // Where both sides stand, with their return points: four small numbers.
-#[derive(Drop)]
+#[derive(Clone, Copy)]
 pub struct Session {
     pub stand: Stand,
 }
 
 // "either the next session or a refusal with its number and place"
-#[derive(Drop)]
+#[derive(Clone, Copy)]
 pub enum Answer {
     Next(Session),
     Refused(Refusal),

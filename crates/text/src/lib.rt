@@ -1,4 +1,6 @@
 // A text put into a lent buffer piece by piece, as the AUT writers spell it. Each piece asks its caller that the text ends below 2^32.
+#![tactic(auto)]
+
 ghost use Rattle.std.specs.Prelude.{◌≡◌, ◌∷◌, [], ◌<◌};
 ghost use Rattle.names.specs.Names.{name_text};
 ghost use Rattle.text.specs.Putting.{Short, Put};

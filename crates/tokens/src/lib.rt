@@ -1,23 +1,25 @@
 // The tokens and lines of a description file. A position is a usize; at or past the end nothing is left.
+#![tactic(auto)]
+
 ghost use Rattle.std.specs.Prelude.{◌≡◌, ◌+◌, ◌<◌, ◌≤◌, drop, length};
 ghost use Rattle.tokens.specs.Tokens.{spaces, byte, number, digits, word, label, text, labelled};
 ghost use Rattle.tokens.specs.Seen.{step_of, StepIn, num_of, closed_of, Within, quoted_of, lined_of, LinedIn, headed_of, HeadedIn};
 ghost use Rattle.tokens.specs.Lines.{after, ending, line, head};
 
-#[derive(Drop)]
+#[derive(Clone, Copy)]
 pub enum Step {
     To(usize),
     Off,
 }
 
-#[derive(Drop)]
+#[derive(Clone, Copy)]
 pub enum Num {
     Is(usize, usize),
     Off,
 }
 
 // What a label says: the state is marked, a message of that name is taken or sent, or it is no label.
-#[derive(Drop)]
+#[derive(Clone, Copy)]
 pub enum Label {
     Mark,
     Take(u64),
@@ -25,33 +27,33 @@ pub enum Label {
     Other,
 }
 
-#[derive(Drop)]
+#[derive(Clone, Copy)]
 pub enum Quoted {
     Is(Label, usize),
     Off,
 }
 
-#[derive(Drop)]
+#[derive(Clone, Copy)]
 pub struct Line {
     pub from: usize,
     pub label: Label,
     pub to: usize,
 }
 
-#[derive(Drop)]
+#[derive(Clone, Copy)]
 pub enum Lined {
     Is(Line, usize),
     Off,
 }
 
-#[derive(Drop)]
+#[derive(Clone, Copy)]
 pub struct Head {
     pub start: usize,
     pub lines: usize,
     pub states: usize,
 }
 
-#[derive(Drop)]
+#[derive(Clone, Copy)]
 pub enum Headed {
     Is(Head, usize),
     Off,

@@ -7,7 +7,7 @@ use session::{Answer, Session};
 use stands::{ClientPoint, ClientState, ServerPoint, ServerState, Stand};
 
 // A pair, and the session that the last granted call handed back.
-#[derive(Drop)]
+#[derive(Clone, Copy)]
 pub struct Play {
     pub client: Behaviour,
     pub server: Behaviour,

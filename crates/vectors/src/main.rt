@@ -1,5 +1,7 @@
 // Runs the cases that data/index lists, a line each; tries every prefix of the files that data/prefixes names; makes the session
 // calls of data/calls. What it must print was written by hand.
+#![tactic(auto)]
+
 mod calls;
 mod out;
 mod prefixes;
@@ -85,7 +87,7 @@ fn run_case(line: &[u8]) {
 }
 
 // What the lines of a list are: cases, files whose prefixes are tried, or session calls.
-#[derive(Drop)]
+#[derive(Clone, Copy)]
 enum Lines {
     Cases,
     Files,

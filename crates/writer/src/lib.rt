@@ -1,4 +1,6 @@
 // Writing a description file: the text of a value, put piece by piece.
+#![tactic(auto)]
+
 ghost use Rattle.std.specs.Prelude.{◌≡◌, ◌-◌, ◌<◌, ◌≤◌, length, drop, take};
 ghost use Rattle.behaviour.specs.Limits.{most_lines};
 ghost use Rattle.text.specs.Putting.{Short, Put};
@@ -12,7 +14,7 @@ use behaviour::{
 use tokens::{Label, Line};
 
 // The number of bytes written, or the refusal.
-#[derive(Drop)]
+#[derive(Clone, Copy)]
 pub enum Written {
     Bytes(u16),
     Refused(Refusal),
@@ -50,7 +52,7 @@ fn put_message(buf: &mut [u8], at: usize, m: Message, g: u8) -> usize
 }
 
 // A place of the text, and the next message.
-#[derive(Drop)]
+#[derive(Clone, Copy)]
 struct Reached {
     at: usize,
     next: usize,
