@@ -69,7 +69,7 @@ class Fn:
 
     def step(self, i, whole, field):
         """The place at or above i, or else at or above whole, whose step is called so, by its old name."""
-        f = norm(field).lower()
+        f = norm(re.sub("_lem$", "", field)).lower()
         for fits in (lambda q: norm(self.places[q][2][0]).lower() == f, lambda q: norm(self.places[q][2][0]).replace("-", "").lower() == f.replace("-", "") or self.places[q][2][1] == field):
             for start in (i, whole):
                 for q in self.chain(start):
@@ -88,6 +88,8 @@ class Fn:
         if not path:
             return "place", i
         f, rest = path[0], path[1:]
+        if f == "args" and not rest:
+            return "args", None
         if f == "args":
             return "text", self.args(["args"] + rest)
         if f in ("ranges", "told", "fits"):
@@ -150,6 +152,8 @@ class Fn:
             if var not in env:
                 return m.group(0)
             kind, what = env[var]
+            if kind == "args":
+                return self.args(["args"] + path)
             if kind == "place":
                 k, t = self.turn_path(what, path)
             else:
@@ -159,6 +163,8 @@ class Fn:
                 return t
             if k == "place":
                 return self.at(goal, t)
+            if k == "args":
+                return "c.args"
             self.left(f"a step alone: {m.group(0)}")
             return m.group(0)
 
@@ -169,14 +175,14 @@ class Fn:
             if not m:
                 break
             var, path = m.group(2).split(".")[0], m.group(2).split(".")[1:]
-            if var in env and (path or env[var][0] == "place"):
+            if var in env and env[var][0] != "args" and (path or env[var][0] == "place"):
                 kind, what = env[var]
                 k, t = self.turn_path(what, path) if kind == "place" else self.turn_path(what[0], [what[1]] + what[2] + path)
                 before = PATH.sub(one, body[at : m.start()])
                 before = self.bare(before, env, goal)
                 out += before
                 at = m.end()
-                if k in ("place", "step"):
+                if k in ("place", "step", "args"):
                     env[m.group(1)] = (k, t)
                 else:
                     env.pop(m.group(1), None)
@@ -189,8 +195,13 @@ class Fn:
         out += self.bare(rest, env, goal)
         return out
 
+    def place(self, i):
+        """The name of the place i; within an arm, that of the whole arm."""
+        arm = self.spec["arms"][i]
+        return arm[0][0].upper() + arm[0][1:] if arm else self.spec["places_by_name"][i]
+
     def at(self, goal, i):
-        new = self.spec["places_by_name"][i]
+        new = self.place(i)
         if goal:
             return f"(goal.at.{goal} c).{new}"
         return "c"
@@ -309,7 +320,7 @@ def convert(fn, crate, name, folder, text):
                 fn.left(f"helper at no place {m.group(2)}")
             else:
                 env[m.group(1)] = ("place", place)
-        body = re.sub(rf"tie\.({WORD})((?: (?:invariant|decreases)-{WORD})*)", lambda m: spec["places_by_name"][fn.index[norm(m.group(1))]] if norm(m.group(1)) in fn.index else m.group(0), body)
+        body = re.sub(rf"tie\.({WORD})((?: (?:invariant|decreases)-{WORD})*)", lambda m: fn.place(fn.index[norm(m.group(1))]) if norm(m.group(1)) in fn.index else m.group(0), body)
         if env:
             body = fn.turn(body, env, None)
             fn.left(f"helper over a place: {first[:60]}")
@@ -320,7 +331,7 @@ def convert(fn, crate, name, folder, text):
         put(os.path.join(folder, "Invariants.antt"), head, imports, f"use {root}.Given as goal", invariants)
         head = [h for h in head if "invariant" not in h] or []
     if answers:
-        shared = sorted({w for w in re.findall(WORD, "\n".join(a.split(" ≡ ")[0] if False else a for a in answers)) if w in spec["places_by_name"]})
+        shared = sorted({w for w in re.findall(WORD, "\n".join(a.split(" ≡ ")[0] if False else a for a in answers)) if w in {fn.place(i) for i in range(len(spec["places"]))}})
         if shared:
             imports = dict(imports, **{w: (f"{root}.Goals", w) for w in shared})
         put(os.path.join(folder, "Answers.antt"), head, imports, f"use {root}.Goals as goal", answers)

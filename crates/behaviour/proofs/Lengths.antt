@@ -14,7 +14,7 @@ pub sized : (b : Behaviour) (vs : List Val) → Is behaviour.the_row b vs → Si
 sized b vs h =
     let o = struct.owed behaviour.the_type laws.the_laws b vs h in
     record {
-      marks = simp length-map at o.1.1.1.0.1.0.1;
-      signs = simp length-map at o.1.1.1.1.0.1.0.1;
-      messages = simp length-map at o.0.1.0.1;
+      marks = o.1.1.1.0.1.0.1;
+      signs = o.1.1.1.1.0.1.0.1;
+      messages = o.0.1.0.1;
     }

@@ -1,0 +1,9 @@
+-- `vectors::run_all` is safe and ends: each line leaves less of the list.
+use Rattle.std.proofs.Common.{◌-◌, length}
+use Rattle.vectors.proofs.run_all.Given as goal
+
+abbrev pub invariant-loop-at : goal.invariant-loop-at
+invariant-loop-at l = Unit {0}
+
+abbrev pub decreases-loop-at : goal.decreases-loop-at
+decreases-loop-at l = length l.list - l.at
