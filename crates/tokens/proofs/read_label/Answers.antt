@@ -5,15 +5,7 @@ use Rattle.tokens.specs.Parse.{got, nothing}
 use Rattle.tokens.specs.Tokens.{marked, label}
 use Rattle.tokens.specs.Seen.{step_of}
 use Rattle.tokens.proofs.Labels.{label-none, take-label, send_label, no_name, a-name, label-word, marked-end, marked_more}
-use Rattle.tokens.proofs.read_label.Goals.{After-literal, In-To}
 use Rattle.tokens.proofs.read_label.Goals as goal
-
--- neither sign: what the word `ckp` leaves decides
-by_word : (c : After-literal) → let s = c.args.b.now in marked (step_of s c.literal.result) ≡ label s
-by_word c = label-word _ _ c.if-b-eq0.false c.if-c-eq63.false c.if-c-eq33.false c.literal.ensures
-
-after-word : (c : In-To) → let s = c.args.b.now in marked (got nothing (drop c.in-To.n s)) ≡ label s
-after-word c = ap (λ (r : Step). marked (step_of c.args.b.now r)) (sym c.in-To.is) ∙ by_word c
 
 pub returns-then-b-eq0 : goal.returns-then-b-eq0
 returns-then-b-eq0 c = label-none _ c.if-b-eq0.true
@@ -35,10 +27,18 @@ returns-then-c-eq33 c =
     a-name _ _ c.if-n-eq0-2.false ∙ send_label _ _ c.if-b-eq0.false c.if-c-eq33.true c.number_of-n-then-c-eq33.ensures
 
 pub returns-in_default : goal.returns-in_default
-returns-in_default c = ap (λ (r : Step). marked (step_of c.args.b.now r)) (sym c.in_default.is) ∙ by_word (goal.at.returns-in_default c).After-literal
+returns-in_default c =
+    ap (λ (r : Step). marked (step_of c.args.b.now r)) (sym c.in_default.is)
+    ∙ label-word _ _ c.if-b-eq0.false c.if-c-eq63.false c.if-c-eq33.false c.literal.ensures
 
 pub returns-then-n-b : goal.returns-then-n-b
-returns-then-n-b c = marked_more _ _ c.if-n-b.true ∙ after-word (goal.at.returns-then-n-b c).In-To
+returns-then-n-b c =
+    marked_more _ _ c.if-n-b.true
+    ∙ ap (λ (r : Step). marked (step_of c.args.b.now r)) (sym c.in-To.is)
+    ∙ label-word _ _ c.if-b-eq0.false c.if-c-eq63.false c.if-c-eq33.false c.literal.ensures
 
 pub returns : goal.returns
-returns c = marked-end _ _ c.if-n-b.false ∙ after-word (goal.at.returns c).In-To
+returns c =
+    marked-end _ _ c.if-n-b.false
+    ∙ ap (λ (r : Step). marked (step_of c.args.b.now r)) (sym c.in-To.is)
+    ∙ label-word _ _ c.if-b-eq0.false c.if-c-eq63.false c.if-c-eq33.false c.literal.ensures

@@ -1,42 +1,28 @@
 -- `tokens::read_line` meets its contract. Each part that is read leaves the rest of the line to be read from where it ends.
-use Rattle.std.proofs.Common.{◌≡◌, sym, ap, subst, ◌∙◌, drop}
-use Rattle.tokens.specs.Parse.{Got}
+use Rattle.std.proofs.Common.{◌≡◌, sym, ap, subst, ◌∙◌, ℕ, List, drop}
+use Rattle.tokens.specs.Parse.{got, nothing}
 use Rattle.tokens.specs.Seen.{step_of, StepIn, num_of, quoted_of}
-use Rattle.tokens.specs.Tokens.{number}
-use Rattle.tokens.specs.Lines.{line}
-use Rattle.tokens.specs.declared.Line.{Line}
+use Rattle.tokens.specs.Tokens.{byte, number, labelled}
+use Rattle.tokens.specs.Lines.{line, spaced, after}
+use Rattle.tokens.specs.declared.Label.{Label}
 use Rattle.tokens.proofs.Parts.{ends, after_bracket, after_from, after_label}
-use Rattle.tokens.proofs.read_line.Goals.{In-Is, In-Is-label_after, In-Is-number_after, In-To, Start}
 use Rattle.tokens.proofs.read_line.Goals as goal
 
--- the line that is read
-abbrev whole : Start → Got Line
-whole c = line (drop c.args.at c.args.s.now)
-
-at_bracket : (c : In-To) → whole c ≡ after_bracket (drop c.in-To.a c.args.s.now)
+at_bracket : (s t : List ℕ) → byte 40 s ≡ got nothing t → line s ≡ after_bracket t
 unfolding line
-at_bracket c = let s = c.args.s.now in rw (sym c.exact.ensures.0 ∙ ap (step_of s) c.in-To.is)
+at_bracket s t e = rw e
 
-at_from : (c : In-Is)
-    → whole c ≡ after_from c.in-Is.from (drop c.in-Is.b c.args.s.now)
-at_from c =
-    let s = c.args.s.now in
-    at_bracket c
-    ∙ rw (ap number (sym c.skip-i.ensures) ∙ sym c.read_number.ensures ∙ ap (num_of s) c.in-Is.is)
+at_from : (s t u : List ℕ) (f : ℕ) → byte 40 s ≡ got nothing t → spaced number t ≡ got f u → line s ≡ after_from f u
+at_from s t u f e g = at_bracket s t e ∙ rw g
 
-at_label : (c : In-Is-label_after)
-    → let f = c.in-Is.from in
-    whole c ≡ after_label f c.in-Is-label_after.label (drop c.in-Is-label_after.d c.args.s.now)
-at_label c =
-    let s = c.args.s.now in
-    at_from c ∙ rw (sym c.label_after.ensures ∙ ap (quoted_of s) c.in-Is-label_after.is)
+at_label : (s t u v : List ℕ) (f : ℕ) (l : Label)
+    → byte 40 s ≡ got nothing t → spaced number t ≡ got f u → after 44 labelled u ≡ got l v → line s ≡ after_label f l v
+at_label s t u v f l e g h = at_from s t u f e g ∙ rw h
 
-at-to : (c : In-Is-number_after)
-    → let f = c.in-Is.from in
-    whole c ≡ ends (record { from = f; label = c.in-Is-label_after.label; to = c.in-Is-number_after.to }) (drop c.in-Is-number_after.e c.args.s.now)
-at-to c =
-    let s = c.args.s.now in
-    at_label c ∙ rw (sym c.number_after.ensures ∙ ap (num_of s) c.in-Is-number_after.is)
+at_to : (s t u v w : List ℕ) (f : ℕ) (l : Label) (g : ℕ)
+    → byte 40 s ≡ got nothing t → spaced number t ≡ got f u → after 44 labelled u ≡ got l v → after 44 number v ≡ got g w
+    → line s ≡ ends (record { from = f; label = l; to = g }) w
+at_to s t u v w f l g a b d e = at_label s t u v f l a b d ∙ rw e
 
 pub returns-in_default : goal.returns-in_default
 unfolding line
@@ -44,31 +30,41 @@ returns-in_default c = let s = c.args.s.now in (rw (sym c.exact.ensures.0 ∙ ap
 
 pub returns-in_default-read_number : goal.returns-in_default-read_number
 returns-in_default-read_number c =
-    let s = c.args.s.now in (
-      sym
-          (at_bracket (goal.at.returns-in_default-read_number c).In-To
-          ∙ rw (ap number (sym c.skip-i.ensures) ∙ sym c.read_number.ensures ∙ ap (num_of s) c.in_default-read_number.is)),
-      tt,
-    )
+    let s = c.args.s.now in
+    let e = sym c.exact.ensures.0 ∙ ap (step_of s) c.in-To.is in
+    (sym (at_bracket _ _ e ∙ rw (ap number (sym c.skip-i.ensures) ∙ sym c.read_number.ensures ∙ ap (num_of s) c.in_default-read_number.is)), tt)
 
 pub returns-in_default-label_after : goal.returns-in_default-label_after
 returns-in_default-label_after c =
     let s = c.args.s.now in
-    (sym (at_from (goal.at.returns-in_default-label_after c).In-Is ∙ rw (sym c.label_after.ensures ∙ ap (quoted_of s) c.in_default-label_after.is)), tt)
+    let e = sym c.exact.ensures.0 ∙ ap (step_of s) c.in-To.is in
+    let f = ap number (sym c.skip-i.ensures) ∙ sym c.read_number.ensures ∙ ap (num_of s) c.in-Is.is in
+    (sym (at_from _ _ _ _ e f ∙ rw (sym c.label_after.ensures ∙ ap (quoted_of s) c.in_default-label_after.is)), tt)
 
 pub returns-in_default-number_after : goal.returns-in_default-number_after
 returns-in_default-number_after c =
     let s = c.args.s.now in
-    (sym (at_label (goal.at.returns-in_default-number_after c).In-Is-label_after ∙ rw (sym c.number_after.ensures ∙ ap (num_of s) c.in_default-number_after.is)), tt)
+    let e = sym c.exact.ensures.0 ∙ ap (step_of s) c.in-To.is in
+    let f = ap number (sym c.skip-i.ensures) ∙ sym c.read_number.ensures ∙ ap (num_of s) c.in-Is.is in
+    let l = sym c.label_after.ensures ∙ ap (quoted_of s) c.in-Is-label_after.is in
+    (sym (at_label _ _ _ _ _ _ e f l ∙ rw (sym c.number_after.ensures ∙ ap (num_of s) c.in_default-number_after.is)), tt)
 
 pub returns-in_default-line_end : goal.returns-in_default-line_end
 returns-in_default-line_end c =
     let s = c.args.s.now in
-    (sym (at-to (goal.at.returns-in_default-line_end c).In-Is-number_after ∙ rw (sym c.line_end.ensures.0 ∙ ap (step_of s) c.in_default-line_end.is)), tt)
+    let e = sym c.exact.ensures.0 ∙ ap (step_of s) c.in-To.is in
+    let f = ap number (sym c.skip-i.ensures) ∙ sym c.read_number.ensures ∙ ap (num_of s) c.in-Is.is in
+    let l = sym c.label_after.ensures ∙ ap (quoted_of s) c.in-Is-label_after.is in
+    let g = sym c.number_after.ensures ∙ ap (num_of s) c.in-Is-number_after.is in
+    (sym (at_to _ _ _ _ _ _ _ _ e f l g ∙ rw (sym c.line_end.ensures.0 ∙ ap (step_of s) c.in_default-line_end.is)), tt)
 
 pub returns : goal.returns
 returns c =
     let s = c.args.s.now in
-    let e = c.line_end.ensures in
-    let f = c.in-To-line_end.is in
-    (sym (at-to (goal.at.returns c).In-Is-number_after ∙ rw (sym e.0 ∙ ap (step_of s) f)), subst (StepIn s) f e.1)
+    let e = sym c.exact.ensures.0 ∙ ap (step_of s) c.in-To.is in
+    let f = ap number (sym c.skip-i.ensures) ∙ sym c.read_number.ensures ∙ ap (num_of s) c.in-Is.is in
+    let l = sym c.label_after.ensures ∙ ap (quoted_of s) c.in-Is-label_after.is in
+    let g = sym c.number_after.ensures ∙ ap (num_of s) c.in-Is-number_after.is in
+    let z = c.line_end.ensures in
+    let i = c.in-To-line_end.is in
+    (sym (at_to _ _ _ _ _ _ _ _ e f l g ∙ rw (sym z.0 ∙ ap (step_of s) i)), subst (StepIn s) i z.1)

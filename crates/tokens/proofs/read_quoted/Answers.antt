@@ -6,24 +6,7 @@ use Rattle.tokens.specs.Parse.{got, nothing}
 use Rattle.tokens.specs.Seen.{step_of, closed_of, Within, part}
 use Rattle.tokens.specs.Tokens.{quoted, byte, text}
 use Rattle.tokens.proofs.Texts.{some-none, some-yes}
-use Rattle.tokens.proofs.read_quoted.Goals.{In-To, In-To-closing}
 use Rattle.tokens.proofs.read_quoted.Goals as goal
-
--- after the opening quote
-opened : (c : In-To) → let s = c.args.s.now in byte 34 (drop c.args.at s) ≡ got nothing (drop c.in-To.from s)
-opened c = sym c.exact.ensures.0 ∙ ap (step_of c.args.s.now) c.in-To.is
-
--- up to the closing one, and where that stands
-closed : (c : In-To-closing)
-    → let s = c.args.s.now in
-    let f = c.in-To.from in
-    text (drop f s) ≡ got (part f c.in-To-closing.to s) (drop (c.in-To-closing.to + 1) s)
-closed c =
-    sym c.closing.ensures.0
-    ∙ ap (closed_of c.args.s.now c.in-To.from) c.in-To-closing.is
-
-inside : (c : In-To-closing) → Within c.args.s.now c.in-To.from (step.To c.in-To-closing.to)
-inside c = subst (Within c.args.s.now c.in-To.from) c.in-To-closing.is c.closing.ensures.1
 
 pub returns-in_default : goal.returns-in_default
 unfolding quoted
@@ -33,22 +16,28 @@ pub returns-in_default-closing : goal.returns-in_default-closing
 unfolding quoted
 returns-in_default-closing c =
     let s = c.args.s.now in
-    rw (opened (goal.at.returns-in_default-closing c).In-To, sym c.closing.ensures.0 ∙ ap (closed_of s c.in-To.from) c.in_default-closing.is)
+    let opened = sym c.exact.ensures.0 ∙ ap (step_of s) c.in-To.is in
+    rw (opened, sym c.closing.ensures.0 ∙ ap (closed_of s c.in-To.from) c.in_default-closing.is)
 
 pub returns-then-to-from : goal.returns-then-to-from
 unfolding quoted
 returns-then-to-from c =
     let s = c.args.s.now in
     let t = c.in-To-closing.to in
-    rw (opened (goal.at.returns-then-to-from c).In-To, closed (goal.at.returns-then-to-from c).In-To-closing, some-none s (drop (t + 1) s) c.in-To.from t c.if-to-from.true)
+    let opened = sym c.exact.ensures.0 ∙ ap (step_of s) c.in-To.is in
+    let closed = sym c.closing.ensures.0 ∙ ap (closed_of s c.in-To.from) c.in-To-closing.is in
+    rw (opened, closed, some-none s (drop (t + 1) s) c.in-To.from t c.if-to-from.true)
 
 pub overflow_add-result : goal.overflow_add-result
-overflow_add-result c = omega (arith, (inside (goal.at.overflow_add-result c).In-To-closing).1)
+overflow_add-result c = omega (arith, subst (Within c.args.s.now c.in-To.from) c.in-To-closing.is c.closing.ensures.1)
 
 pub returns : goal.returns
 unfolding quoted
 returns c =
     let s = c.args.s.now in
     let t = c.in-To-closing.to in
-    rw (opened (goal.at.returns c).In-To, closed (goal.at.returns c).In-To-closing, some-yes s (drop (t + 1) s) c.in-To.from t c.if-to-from.false (inside (goal.at.returns c).In-To-closing).1)
+    let opened = sym c.exact.ensures.0 ∙ ap (step_of s) c.in-To.is in
+    let closed = sym c.closing.ensures.0 ∙ ap (closed_of s c.in-To.from) c.in-To-closing.is in
+    let inside = subst (Within s c.in-To.from) c.in-To-closing.is c.closing.ensures.1 in
+    rw (opened, closed, some-yes s (drop (t + 1) s) c.in-To.from t c.if-to-from.false inside.1)
     (ap (λ (l : Label). got l (drop (t + 1) s)) c.read_label.ensures)
