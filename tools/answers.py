@@ -46,6 +46,18 @@ def blocks(text):
     return out
 
 
+def nested(path, names, ended):
+    """A place in a nest of pairs by its name: .0, .1.0, .1.1.0 and so on; the last needs no 0 where nothing ends the nest."""
+    k = 0
+    while k < len(path) and path[k] == "1":
+        k += 1
+    if k < len(names) and path[k : k + 1] == ["0"]:
+        return [names[k]] + path[k + 1 :]
+    if not ended and k and k == len(names) - 1:
+        return [names[k]] + path[k:]
+    return path
+
+
 class Fn:
     def __init__(self, spec, where):
         self.spec, self.where = spec, where
@@ -96,12 +108,8 @@ class Fn:
             return "text", self.args([f] + rest)
         if f == "requires":
             pre = self.spec.get("pre")
-            if pre and rest:
-                names = pre["fields"]
-                if rest[0].isdigit():
-                    k = int(rest[0])
-                    if k < len(names):
-                        return "text", ".".join(["c.requires", names[k]] + rest[1:])
+            if pre:
+                rest = nested(rest, pre["fields"], False)
             return "text", ".".join(["c.requires"] + rest)
         if norm(f) in ("well-formed", "lifetimes", "utf8"):
             return "text", ".".join(["c." + f.replace("-", "_")] + rest)
@@ -126,15 +134,22 @@ class Fn:
                     return "text", ".".join(["c.type_inv", s] + rest[1:])
             for s, old in self.spec["typed"][q]:
                 return "text", ".".join(["c.type_inv", s] + rest[1:])
+        if not rest:
+            return "alias", q
+        return "text", ".".join(["c", p[2][1]] + self.fields(q, rest))
+
+    def fields(self, q, rest):
+        """The fields behind the step of the place q, by their new names."""
+        p = self.places[q]
         if p[4] and rest:
-            for new, old in p[4]:
-                pass
             turned = dict((a, b) for a, b in p[4])
             rest = [turned.get(rest[0], rest[0])] + rest[1:]
         clause = self.spec["clauses"][q]
-        if clause and len(rest) > 1 and rest[0] == "ensures" and rest[1].isdigit():
-            rest = ["ensures", clause["fields"][int(rest[1])]] + rest[2:]
-        return "text", ".".join(["c", p[2][1]] + rest)
+        if clause and rest[:1] == ["ensures"]:
+            rest = ["ensures"] + nested(rest[1:], clause["fields"], False)
+        if rest and rest[0] in ("new", "auto") and p[3] in self.spec["params"]:
+            rest = rest[:1] + nested(rest[1:], self.spec["params"][p[3]], True)
+        return rest
 
     def args(self, path):
         text = "." + " .".join(path)
@@ -154,6 +169,8 @@ class Fn:
             kind, what = env[var]
             if kind == "args":
                 return self.args(["args"] + path)
+            if kind == "alias":
+                return ".".join([var] + self.fields(what, path))
             if kind == "place":
                 k, t = self.turn_path(what, path)
             else:
@@ -165,6 +182,8 @@ class Fn:
                 return self.at(goal, t)
             if k == "args":
                 return "c.args"
+            if k == "alias":
+                return "c." + self.places[t][2][1]
             self.left(f"a step alone: {m.group(0)}")
             return m.group(0)
 
@@ -175,7 +194,7 @@ class Fn:
             if not m:
                 break
             var, path = m.group(2).split(".")[0], m.group(2).split(".")[1:]
-            if var in env and env[var][0] != "args" and (path or env[var][0] == "place"):
+            if var in env and env[var][0] not in ("args", "alias") and (path or env[var][0] == "place"):
                 kind, what = env[var]
                 k, t = self.turn_path(what, path) if kind == "place" else self.turn_path(what[0], [what[1]] + what[2] + path)
                 before = PATH.sub(one, body[at : m.start()])
@@ -184,6 +203,9 @@ class Fn:
                 at = m.end()
                 if k in ("place", "step", "args"):
                     env[m.group(1)] = (k, t)
+                elif k == "alias":
+                    env[m.group(1)] = (k, t)
+                    out += f"let {m.group(1)} = c.{self.places[t][2][1]} in" + m.group(0)[m.group(0).rindex(" in") + 3 :]
                 else:
                     env.pop(m.group(1), None)
                     out += m.group(0).replace(m.group(2), t, 1) if m.group(2) not in m.group(1) else f"let {m.group(1)} = {t} in" + m.group(0)[m.group(0).index(" in") + 3 :]
@@ -272,9 +294,8 @@ def convert(fn, crate, name, folder, text):
             e = clause.index("=")
             params = clause[:e].split()[1:]
             value = clause[e + 1 :].strip("\n")
-            still = [v for v, c in zip(variables, changed) if not c]
             moved = [v for v, c in zip(variables, changed) if c]
-            order = [f"l.{v}" for v in still] + [f"l.initial.{v}" for v in moved] + [f"l.{v}" for v in moved]
+            order = [f"l.initial.{v}" if c else f"l.{v}" for v, c in zip(variables, changed)] + [f"l.{v}" for v in moved]
             if len(params) != len(order):
                 fn.left(f"{kind}-{new}: {len(params)} parameters, {len(order)} variables: {' '.join(params)} | {' '.join(order)}")
             to = {p: q for p, q in zip(params, order) if p != "_"}
@@ -307,7 +328,10 @@ def convert(fn, crate, name, folder, text):
                 continue
             env = {params[0]: ("place", place)}
             value = fn.turn(value, env, new)
-            asked = spec.get("asked", {}).get(norm(need).replace("-", "_")) or spec.get("asked", {}).get(need)
+            plain = re.sub("^overflow-", "", need)
+            asked = next((names for k, names in spec["asked"].items() if norm(k) == plain), None)
+            if asked:
+                value = by_name(value, asked) or value
             answers.append("\n".join(comment + [f"pub {new} : goal.{new}"] + opens + [f"{new} c ={value}"]))
             if params[0] != "c":
                 fn.left(f"{new}: its argument is {params[0]}")
@@ -336,6 +360,49 @@ def convert(fn, crate, name, folder, text):
             imports = dict(imports, **{w: (f"{root}.Goals", w) for w in shared})
         put(os.path.join(folder, "Answers.antt"), head, imports, f"use {root}.Goals as goal", answers)
     os.remove(os.path.join(folder, "Proof.antt"))
+
+
+def by_name(value, names):
+    """A tuple at the end of a body as a record of these names."""
+    at = 0
+    while True:
+        m = re.compile(r"\s*let .*? in(?=\s)", re.S).match(value, at)
+        if not m:
+            break
+        at = m.end()
+    rest = value[at:].strip()
+    parts = split(rest)
+    if parts and len(parts) == 2 and len(names) > 2:
+        while len(parts) < len(names) and split(parts[-1]):
+            parts = parts[:-1] + split(parts[-1])
+    if parts and len(parts) == len(names) + 1 and parts[-1] == "tt":
+        parts = parts[:-1]
+    if not parts or len(parts) != len(names):
+        return None
+    gap = value[at : len(value) - len(value[at:].lstrip())]
+    return value[:at] + gap + "record { " + "; ".join(f"{n} = {p}" for n, p in zip(names, parts)) + " }"
+
+
+def split(text):
+    """The parts of a tuple that is the whole text, or None."""
+    text = text.strip()
+    if not text.startswith("("):
+        return None
+    depth, parts, at = 0, [], 1
+    for i, ch in enumerate(text):
+        if ch in "({[":
+            depth += 1
+        elif ch in ")}]":
+            depth -= 1
+            if depth == 0:
+                if i != len(text) - 1:
+                    return None
+                parts.append(text[at:i].strip())
+        elif ch == "," and depth == 1:
+            parts.append(text[at:i].strip())
+            at = i + 1
+    parts = [p for p in parts if p]
+    return parts if len(parts) > 1 else None
 
 
 def collect(uses):

@@ -9,7 +9,7 @@ use Rattle.packing.proofs.pack.Goals as goal
 
 pub returns-then-out-lt-VALUE_BYTES : goal.returns-then-out-lt-VALUE_BYTES
 unfolding left
-returns-then-out-lt-VALUE_BYTES c = let e = lt-leb value_bytes _ c.if-out-lt-VALUE_BYTES.true in (sym e, rw e)
+returns-then-out-lt-VALUE_BYTES c = let e = lt-leb value_bytes _ c.if-out-lt-VALUE_BYTES.true in record { says = sym e; leaves = rw e }
 
 pub bounds-out-1 : goal.bounds-out-1
 bounds-out-1 c = simp length-set (omega (arith, c.if-out-lt-VALUE_BYTES.false))
@@ -20,30 +20,30 @@ put_row-requires c = simp length-set (omega (arith, c.if-out-lt-VALUE_BYTES.fals
 pub put_row-requires-2 : goal.put_row-requires-2
 put_row-requires-2 c =
     let r = c.put_row in
-    let k : length r.new.1.0 ≡ length c.args.out.now = simp length-set at r.auto.1.0 in
-    let h : 2 + most_states + most_states ≤ length r.new.1.0 = omega (arith, c.if-out-lt-VALUE_BYTES.false) in
+    let k : length r.new.out ≡ length c.args.out.now = simp length-set at r.auto.out in
+    let h : 2 + most_states + most_states ≤ length r.new.out = omega (arith, c.if-out-lt-VALUE_BYTES.false) in
     h
 
 pub put_messages-requires : goal.put_messages-requires
 put_messages-requires c =
     let q = c.put_row-2 in
     let r = c.put_row in
-    let k : length r.new.1.0 ≡ length c.args.out.now = simp length-set at r.auto.1.0 in
-    let j : length q.new.1.0 ≡ length r.new.1.0 = q.auto.1.0 in
-    let h : value_bytes ≤ length q.new.1.0 = omega (arith, c.if-out-lt-VALUE_BYTES.false) in
+    let k : length r.new.out ≡ length c.args.out.now = simp length-set at r.auto.out in
+    let j : length q.new.out ≡ length r.new.out = q.auto.out in
+    let h : value_bytes ≤ length q.new.out = omega (arith, c.if-out-lt-VALUE_BYTES.false) in
     h
 
 pub shape_of-out : goal.shape_of-out
 shape_of-out c =
     let q = c.put_row-2 in
     let r = c.put_row in
-    let k : length r.new.1.0 ≡ length c.args.out.now = simp length-set at r.auto.1.0 in
-    let j : length q.new.1.0 ≡ length r.new.1.0 = q.auto.1.0 in
-    c.put_messages.auto.1.0 ∙ (j ∙ k)
+    let k : length r.new.out ≡ length c.args.out.now = simp length-set at r.auto.out in
+    let j : length q.new.out ≡ length r.new.out = q.auto.out in
+    c.put_messages.auto.out ∙ (j ∙ k)
 
 pub returns : goal.returns
 unfolding left
 returns c =
     let e = le-leb value_bytes (length c.args.out.now) c.if-out-lt-VALUE_BYTES.false in
     let z = sized c.args.b _ c.well_formed.0 in
-    (sym e, rw e (all-parts c.args.b c.args.out.now _ _ _ z c.put_row.ensures c.put_row-2.ensures c.put_messages.ensures c.if-out-lt-VALUE_BYTES.false))
+    record { says = sym e; leaves = rw e (all-parts c.args.b c.args.out.now _ _ _ z c.put_row.ensures c.put_row-2.ensures c.put_messages.ensures c.if-out-lt-VALUE_BYTES.false) }

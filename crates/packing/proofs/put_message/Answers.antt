@@ -9,7 +9,7 @@ pub put_name-requires : goal.put_name-requires
 put_name-requires c = simp length-set (omega (arith, c.requires))
 
 pub shape_of-out : goal.shape_of-out
-shape_of-out c = simp length-set at c.put_name.auto.1.0
+shape_of-out c = simp length-set at c.put_name.auto.out
 
 pub returns : goal.returns
 returns c =

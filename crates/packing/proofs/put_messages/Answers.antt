@@ -26,7 +26,7 @@ loop-i-preserved c =
     let h : l.i < length c.args.a = omega (arith, l.invariant.2) in (
       l.invariant.0 ∙ next-message c.args.a l.out l.i l.p h
           ∙ ap (λ (r : List ℕ). sets r (l.p + message_bytes) (packed_messages (drop (l.i + 1) c.args.a))) (sym c.put_message.ensures),
-      c.put_message.auto.1.0 ∙ l.invariant.1,
+      c.put_message.auto.out ∙ l.invariant.1,
       l.invariant.2,
       l.invariant.3,
       omega (arith, l.invariant.4),

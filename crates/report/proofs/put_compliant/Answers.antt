@@ -11,7 +11,7 @@ put_bytes-a-requires c = short-first (bytes "compliant") ((32 ∷ decimal c.args
 
 pub put_number-b-requires : goal.put_number-b-requires
 unfolding bytes
-put_number-b-requires c = (c.requires.n_bound, short-first (32 ∷ decimal c.args.n) (10 ∷ []) (short-next ((32 ∷ decimal c.args.n) ++ (10 ∷ [])) c.requires.short c.put_bytes-a.ensures))
+put_number-b-requires c = record { n_bound = c.requires.n_bound; short = short-first (32 ∷ decimal c.args.n) (10 ∷ []) (short-next ((32 ∷ decimal c.args.n) ++ (10 ∷ [])) c.requires.short c.put_bytes-a.ensures) }
 
 pub put-requires : goal.put-requires
 unfolding bytes

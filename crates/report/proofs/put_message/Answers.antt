@@ -5,7 +5,7 @@ use Rattle.report.proofs.put_message.Goals as goal
 
 pub put_line-requires : goal.put_line-requires
 unfolding line_text tens
-put_line-requires c = (omega (arith, c.requires.k_bound), (omega (arith, c.requires.k_bound), rw c.label_of-label.ensures c.requires.short))
+put_line-requires c = record { from_bound = omega (arith, c.requires.k_bound); to_bound = omega (arith, c.requires.k_bound); short = rw c.label_of-label.ensures c.requires.short }
 
 pub returns : goal.returns
 unfolding line_text

@@ -7,14 +7,14 @@ use Rattle.report.proofs.put_rollback.Goals as goal
 
 pub put_opening-a-requires : goal.put_opening-a-requires
 unfolding tens
-put_opening-a-requires c = (omega (arith, c.requires.k_bound), short-first (opening c.args.k) (rbk ++ closing (c.args.k + 1)) c.requires.short)
+put_opening-a-requires c = record { f_bound = omega (arith, c.requires.k_bound); short = short-first (opening c.args.k) (rbk ++ closing (c.args.k + 1)) c.requires.short }
 
 pub put_bytes-b-requires : goal.put_bytes-b-requires
 put_bytes-b-requires c = short-first rbk (closing (c.args.k + 1)) (short-next (rbk ++ closing (c.args.k + 1)) c.requires.short c.put_opening-a.ensures)
 
 pub put_closing-requires : goal.put_closing-requires
 unfolding tens
-put_closing-requires c = (omega (arith, c.requires.k_bound), short-next (closing (c.args.k + 1)) (short-next (rbk ++ closing (c.args.k + 1)) c.requires.short c.put_opening-a.ensures) c.put_bytes-b.ensures)
+put_closing-requires c = record { g_bound = omega (arith, c.requires.k_bound); short = short-next (closing (c.args.k + 1)) (short-next (rbk ++ closing (c.args.k + 1)) c.requires.short c.put_opening-a.ensures) c.put_bytes-b.ensures }
 
 pub returns : goal.returns
 returns c = put_then c.put_opening-a.ensures (put_then c.put_bytes-b.ensures c.put_closing.ensures)

@@ -7,7 +7,7 @@ pub loop-i-init : goal.loop-i-init
 loop-i-init c = (omega arith, onward-start)
 
 pub put_step-place-requires : goal.put_step-place-requires
-put_step-place-requires c = (omega (arith, c.requires.run_len_bound), steps-short c.args.c c.args.names.now c.loop-i.x c.loop-i.home c.args.run.now c.loop-i.i c.loop-i.invariant.1 c.loop-i-test.true c.requires.short)
+put_step-place-requires c = record { k_bound = omega (arith, c.requires.run_len_bound); short = steps-short c.args.c c.args.names.now c.loop-i.x c.loop-i.home c.args.run.now c.loop-i.i c.loop-i.invariant.1 c.loop-i-test.true c.requires.short }
 
 pub next_state-y-requires : goal.next_state-y-requires
 next_state-y-requires c = tt

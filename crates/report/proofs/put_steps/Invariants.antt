@@ -5,7 +5,7 @@ use Rattle.text.proofs.Onward.{Onward}
 use Rattle.report.proofs.put_steps.Given as goal
 
 abbrev pub invariant-loop-i : goal.invariant-loop-i
-invariant-loop-i l = (l.i ≤ length l.initial.out) × Onward l.at l.c (followed l.names l.run 0 0 0 l.initial.out) l.out l.place (followed l.names l.run l.i l.x l.home (drop l.i l.initial.out))
+invariant-loop-i l = (l.i ≤ length l.run) × Onward l.initial.out l.at (followed l.c l.names 0 0 0 l.run) l.out l.place (followed l.c l.names l.i l.x l.home (drop l.i l.run))
 
 abbrev pub decreases-loop-i : goal.decreases-loop-i
-decreases-loop-i l = length l.initial.out - l.i
+decreases-loop-i l = length l.run - l.i

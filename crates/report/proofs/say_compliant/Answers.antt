@@ -7,14 +7,14 @@ use Rattle.report.proofs.say_compliant.Goals as goal
 
 pub put_compliant-n-requires : goal.put_compliant-n-requires
 unfolding tens
-put_compliant-n-requires c = (omega (arith, c.ranges.stands), compliant-short c.args.stands)
+put_compliant-n-requires c = record { n_bound = omega (arith, c.ranges.stands); short = compliant-short c.args.stands }
 
 pub returns-then-out-n : goal.returns-then-out-n
 returns-then-out-n c = told-long c.put_compliant-n.ensures c.if-out-n.true c.too_long.ensures
 
 pub put_compliant-requires : goal.put_compliant-requires
 unfolding tens
-put_compliant-requires c = (omega (arith, c.ranges.stands), compliant-short c.args.stands)
+put_compliant-requires c = record { n_bound = omega (arith, c.ranges.stands); short = compliant-short c.args.stands }
 
 pub overflow_cast-result : goal.overflow_cast-result
 overflow_cast-result c = omega (arith, c.put_compliant-n.ensures.place, compliant-length c.args.stands)
