@@ -324,7 +324,7 @@ def convert(fn, crate, name, folder, text):
             e = clause.index("=")
             params = clause[:e].split()[1:]
             value = clause[e + 1 :]
-            if value.strip() in ("search rules",) or re.match(r"enum_(known|told)", new):
+            if value.strip() == "search rules" and not opens or re.match(r"enum_(known|told)", new):
                 continue
             env = {params[0]: ("place", place)}
             value = fn.turn(value, env, new)
