@@ -6,7 +6,7 @@ use Rattle.behaviour.specs.declared.Behaviour.{Behaviour}
 use Rattle.stands.specs.Stands.{cause, pair}
 use Rattle.stands.specs.Judgement.{Judgement, compliant, stuck, Judged}
 use Rattle.runs.specs.System as runs
-use Rattle.runs.specs.Unique.{verdict_unique}
+use Rattle.runs.proofs.Unique.{verdict_unique}
 
 pub judged_unique : (c s : Behaviour) (a b : Judgement) → Judged c s a → Judged c s b → a ≡ b
 unfolding Judged runs.IsVerdict

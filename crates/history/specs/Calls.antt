@@ -23,6 +23,7 @@ size (h then c) = suc (size h)
 
 made-size : (e : Calls) (c : Call) (h : Calls) → Made e c h → size e < size h
 unfolding Made size
+made-size e c opening m = absurd m
 made-size e c (h then d) (inl p) = omega (arith, ap size p.0)
 made-size e c (h then d) (inr m) = omega (arith, made-size e c h m)
 
@@ -37,6 +38,7 @@ made-not-now e c h m p = omega (arith, made-size e c h m, ap size p)
 pub made_tri : (e : Calls) (c : Call) (f : Calls) (d : Call) (h : Calls) → Made e c h → Made f d h
     → ((e ≡ f) × (c ≡ d)) ⊎ (Made e c f ⊎ Made f d e)
 unfolding Made
+made_tri e c f d opening m n = absurd m
 made_tri e c f d (h then b) (inl p) (inl q) = inl (p.0 ∙ sym q.0, p.1 ∙ sym q.1)
 made_tri e c f d (h then b) (inl p) (inr n) = inr (inr (rw p.0 n))
 made_tri e c f d (h then b) (inr m) (inl q) = inr (inl (rw q.0 m))

@@ -1,14 +1,11 @@
 -- Sham sessions that demand 3 shuts out, whatever they say: each does what one of 01's "Errors that look right" or its list of shams tells.
 use Rattle.std.specs.Prelude.{◌≡◌, Bool, true, false, List, ℕ}
-use Rattle.std.proofs.Common.{sym, ◌∙◌, ap, inl, inr, arith}
+use Rattle.std.proofs.Common.{sym, ◌∙◌, ap, arith}
 use Rattle.std.proofs.Math.Option.{Option, none, some}
 use Rattle.history.specs.Calls.{Call, message, rollback, Calls, opening, ◌then◌}
-use Rattle.history.specs.Side.{Side, Can, Possible}
+use Rattle.history.specs.Side.{Side, Possible}
 use Rattle.history.specs.Point.{Point, point-opening, point-message, point_one}
 use Rattle.history.specs.Demand.{Seen, ClientPoint, ServerPoint, Demand}
-
-unlike : true ≡ false → ⊥
-unlike e = let z : ◌≡◌ {A = ℕ} 0 1 = cc in omega arith
 
 module _ {A B : Type 0} (named : List ℕ → Option ℕ) (C : Side A) (S : Side B) (w : Seen A B) (d : Demand named C S w) where
   -- "Keeping return points after a rollback": a second rollback right after a granted one is refused
@@ -18,16 +15,6 @@ module _ {A B : Type 0} (named : List ℕ → Option ℕ) (C : Side A) (S : Side
       let z = point_one _ _ _ (h then rollback) (some p.0) none p.2 (d.rollback_clears h g).0 in
       let o : ◌≡◌ {A = ℕ} 0 1 = cc in
       omega arith
-
-  -- "Letting a message through when the taker knows one of the sender's names and not all" (case d): the client sends k, which the server does not take
-  pub one_name : (n : List ℕ) (k : ℕ) → C.sends C.start k ≡ true → S.takes S.start k ≡ false → ((m : ℕ) → S.sends S.start m ≡ false)
-      → w.granted opening (message n) ≡ true → ⊥
-  unfolding Can
-  one_name n k sent lacked still g = let p = (d.message-granted opening n).0 g in go p.0 (rw (d.opened.0, d.opened.1) at p.2)
-    where
-      go : (m : ℕ) → Possible C C.start S S.start m → ⊥
-      go m (inl q) = unlike (sym (q.1 k sent) ∙ lacked)
-      go m (inr q) = unlike (sym q.0 ∙ still m)
 
 -- on a pair whose first message n moves the client (cases g and h among them)
 module _ {A B : Type 0} (named : List ℕ → Option ℕ) (C : Side A) (S : Side B) (w : Seen A B) (d : Demand named C S w)

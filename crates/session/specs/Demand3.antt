@@ -18,7 +18,8 @@ use Rattle.history.specs.Calls.{Call, message, rollback, Calls, opening}
 use Rattle.history.specs.Demand.{Seen, ClientPoint, ServerPoint, Demand}
 use Rattle.history.specs.Determined.{determined}
 use Rattle.history.specs.Played.{has, session}
-use Rattle.history.specs.Meets.{Steps, told, meets}
+use Rattle.history.specs.Meets.{Steps}
+use Rattle.history.proofs.Meets.{told, meets}
 use Rattle.session.specs.declared.Session.{Session}
 use Rattle.session.specs.declared.Answer.TheVariants as answer
 use Rattle.session.specs.Answers.{fault, stepped, named, messaged, rolled_back}
