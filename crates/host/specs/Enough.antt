@@ -11,7 +11,7 @@ use Rattle.stands.specs.Stands.{alphabet}
 use Rattle.stands.specs.Judgement.{Judgement, compliant, stuck, Judged}
 use Rattle.stands.specs.Cases.{bytes}
 use Rattle.writer.specs.Text.{text}
-use Rattle.writer.proofs.Lengths.{text-few}
+use Rattle.writer.specs.Lengths.{text-few}
 use Rattle.roundtrip.specs.Theorems.{read-sound}
 use Rattle.verdict.specs.declared.Verdict.TheVariants as verdict
 use Rattle.verdict.specs.Answer.{Unsound, TooLong, Says}

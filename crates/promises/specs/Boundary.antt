@@ -10,7 +10,7 @@ use Rattle.aut.specs.File.{file}
 use Rattle.writer.specs.declared.Written.{Written}
 use Rattle.writer.specs.declared.Written.TheVariants as written
 use Rattle.writer.specs.Text.{text}
-use Rattle.writer.proofs.Lengths as lengths
+use Rattle.writer.specs.Lengths as lengths
 use Rattle.writer.specs.Written as writer
 use Rattle.stands.specs.declared.Stand.{Stand}
 use Rattle.stands.specs.Stands.{said}

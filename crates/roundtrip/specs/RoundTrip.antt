@@ -19,8 +19,7 @@ use Rattle.aut.specs.File.{marked_finished, finish, accept, file}
 use Rattle.aut.specs.Contents.{judged}
 use Rattle.text.specs.Spelling.{message_label, head_text}
 use Rattle.writer.specs.Text.{message_line, mark_line, message_lines, after_state, lines_from, lines_text, line_count, text}
-use Rattle.writer.specs.Lengths.{parts-length}
-use Rattle.writer.proofs.Lengths.{text-few}
+use Rattle.writer.specs.Lengths.{parts-length, text-few}
 use Rattle.roundtrip.specs.Lines.{Allowed}
 use Rattle.roundtrip.specs.AddAll.{Each, none, more, file-read}
 use Rattle.roundtrip.specs.Rebuild.{holding, AllBetween, Settled, lines-rebuilt}

@@ -15,7 +15,7 @@ use Rattle.aut.specs.File.{accept, file}
 use Rattle.writer.specs.declared.Written.TheVariants.{Bytes}
 use Rattle.writer.specs.Text.{text}
 use Rattle.writer.specs.Written.{written, left}
-use Rattle.writer.proofs.Lengths.{text-few}
+use Rattle.writer.specs.Lengths.{text-few}
 use Rattle.roundtrip.specs.Sorted.{least}
 use Rattle.roundtrip.specs.Soundness.{sorted_of, sorted_back, between_of, between-back, blank_of, blank-back, settled_of, settled_back, unfinished_of}
 use Rattle.roundtrip.specs.RoundTrip.{Valid, round_trip}

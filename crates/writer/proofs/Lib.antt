@@ -1,5 +1,4 @@
 -- The laws that the proofs of `writer` share.
-pub mod Lengths
 pub mod States
 pub mod Telling
 pub mod Whole

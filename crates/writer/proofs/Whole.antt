@@ -15,7 +15,7 @@ use Rattle.behaviour.specs.SoundLaws.{parts}
 use Rattle.writer.specs.declared.Written.TheVariants.{Bytes, Refused}
 use Rattle.text.specs.Spelling.{head_text}
 use Rattle.writer.specs.Text.{lines_from, lines_text, line_count, text}
-use Rattle.writer.proofs.Lengths.{text-few}
+use Rattle.writer.specs.Lengths.{text-few}
 use Rattle.writer.specs.Written.{written, left}
 use Rattle.text.specs.Putting.{Short, Put}
 use Rattle.text.proofs.Puts.{front_bytes}

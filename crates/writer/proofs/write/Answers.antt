@@ -1,6 +1,6 @@
 -- `writer::write` meets its contract.
 use Rattle.std.proofs.Common.{sym, ◌∙◌, arith}
-use Rattle.writer.proofs.Lengths.{text-few}
+use Rattle.writer.specs.Lengths.{text-few}
 use Rattle.writer.proofs.Whole.{sound-few, write-unsound, write-long, write_done}
 use Rattle.writer.proofs.write.Goals as goal
 
