@@ -4,7 +4,7 @@ use Rattle.text.specs.Putting.{Put}
 use Rattle.text.proofs.put_bytes.Given as goal
 
 abbrev pub invariant-loop-j : goal.invariant-loop-j
-invariant-loop-j l = (l.j ≤ length l.initial.buf) × Put l.at l.w (take l.j l.initial.buf) l.place l.buf
+invariant-loop-j l = (l.j ≤ length l.w) × Put l.initial.buf l.at (take l.j l.w) l.place l.buf
 
 abbrev pub decreases-loop-j : goal.decreases-loop-j
-decreases-loop-j l = length l.initial.buf - l.j
+decreases-loop-j l = length l.w - l.j

@@ -10,7 +10,7 @@ put_bytes-a-requires c = short-first (34 ∷ 44 ∷ []) (decimal c.args.g ++ (41
 
 pub put_decimal-b-requires : goal.put_decimal-b-requires
 unfolding closing
-put_decimal-b-requires c = (c.requires.g_bound, short-first (decimal c.args.g) (41 ∷ 10 ∷ []) (short-next (decimal c.args.g ++ (41 ∷ 10 ∷ [])) c.requires.short c.put_bytes-a.ensures))
+put_decimal-b-requires c = record { n_bound = c.requires.g_bound; short = short-first (decimal c.args.g) (41 ∷ 10 ∷ []) (short-next (decimal c.args.g ++ (41 ∷ 10 ∷ [])) c.requires.short c.put_bytes-a.ensures) }
 
 pub put_bytes-requires : goal.put_bytes-requires
 unfolding closing

@@ -10,7 +10,7 @@ put-a-requires c = short-first (40 ∷ []) (decimal c.args.f ++ (44 ∷ 34 ∷ [
 
 pub put_decimal-b-requires : goal.put_decimal-b-requires
 unfolding opening
-put_decimal-b-requires c = (c.requires.f_bound, short-first (decimal c.args.f) (44 ∷ 34 ∷ []) (short-next (decimal c.args.f ++ (44 ∷ 34 ∷ [])) c.requires.short c.put-a.ensures))
+put_decimal-b-requires c = record { n_bound = c.requires.f_bound; short = short-first (decimal c.args.f) (44 ∷ 34 ∷ []) (short-next (decimal c.args.f ++ (44 ∷ 34 ∷ [])) c.requires.short c.put-a.ensures) }
 
 pub put_bytes-requires : goal.put_bytes-requires
 unfolding opening

@@ -5,7 +5,7 @@ use Rattle.writer.proofs.Telling.{Going}
 use Rattle.writer.proofs.put_lines.Given as goal
 
 abbrev pub invariant-loop-k : goal.invariant-loop-k
-invariant-loop-k l = Going l.at l.a l.signs l.initial.buf l.n l.marks l.buf l.place l.next l.k
+invariant-loop-k l = Going l.initial.buf l.at l.marks l.signs l.a l.n l.buf l.place l.next l.k
 
 abbrev pub decreases-loop-k : goal.decreases-loop-k
 decreases-loop-k l = most_states - l.k
