@@ -1,5 +1,5 @@
 -- Reading a written line gives it back.
-use Rattle.std.specs.Prelude.{◌≡◌, refl, List, [], ◌∷◌, ◌++◌, Bool, true, false, ℕ, zero, suc, ◌+◌, ◌-◌, ◌/◌, ◌%◌, ◌<◌, ◌≤◌, eqb, ltb}
+use Rattle.std.specs.Prelude.{◌≡◌, refl, List, [], ◌∷◌, ◌++◌, Bool, true, false, ℕ, zero, suc, ◌+◌, ◌/◌, ◌%◌, ◌<◌, eqb, ltb}
 use Rattle.std.proofs.Common.{append_assoc, arith, ne_eqb}
 use Rattle.names.specs.If.{if}
 use Rattle.names.specs.Tests.{both}

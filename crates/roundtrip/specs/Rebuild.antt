@@ -1,10 +1,10 @@
 -- The lines of a sound value, added one after the other, give the value.
-use Rattle.std.specs.Prelude.{◌≡◌, Bool, true, false, ◌&&◌, ◌||◌, ◌⊎◌, ℕ, suc, ◌+◌, ◌-◌, ◌<◌, ◌≤◌, eqb, ltb, set, drop, replicate}
+use Rattle.std.specs.Prelude.{◌≡◌, Bool, true, false, ◌⊎◌, ℕ, suc, ◌+◌, ◌-◌, ◌<◌, ◌≤◌, eqb, set, drop, replicate}
 use Rattle.std.proofs.Math.Path.{refl, ap, subst}
 use Rattle.std.proofs.Common.{sym, ap₂, ◌∙◌, inl, inr}
 use mathlib.Core.List.{List, [], ◌∷◌, ◌++◌, append_assoc, append-nil}
 use native.Mathlib.Omega.{arith}
-use borrow.Author.Tests.{eq-eqb, ne_eqb, lt-ltb, le-ltb, ltb-true, eqb-true}
+use borrow.Author.Tests.{eq-eqb, ne_eqb, lt-ltb, eqb-true}
 use Rattle.std.proofs.Math.ListN.{length, length-append, get_or}
 use Rattle.std.proofs.Math.Seq.{take-append_seam, drop-append-add, get_or_at}
 use Rattle.std.proofs.lemmas.List.{set_at}
@@ -16,7 +16,7 @@ use Rattle.behaviour.specs.declared.Message.{Message}
 use Rattle.behaviour.specs.declared.Behaviour.{Behaviour}
 use Rattle.behaviour.specs.Limits.{most_lines}
 use Rattle.behaviour.specs.Pick.{unused}
-use Rattle.behaviour.specs.Sound.{messages, before}
+use Rattle.behaviour.specs.Sound.{before}
 use Rattle.behaviour.specs.Ordered.{not_back, not_alike}
 use Rattle.aut.specs.declared.Read.{Read}
 use Rattle.aut.specs.Adding.{insert, has, add, add_message, check, check_message}

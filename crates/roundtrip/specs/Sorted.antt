@@ -1,6 +1,6 @@
 -- Sorted messages stay sorted, and a value stays sound, where a message is inserted.
-use Rattle.std.specs.Prelude.{◌≡◌, refl, List, [], ◌∷◌, ◌++◌, Bool, true, false, ◌&&◌, ◌||◌, ◌⊎◌, ℕ, zero, suc, ◌+◌, ◌-◌, ◌<◌, ◌≤◌, eqb, ltb, length, set}
-use Rattle.std.proofs.Common.{sym, subst, inl, inr, arith, eq-eqb, ne_eqb, lt-ltb, le-ltb, ltb-false, eqb-true}
+use Rattle.std.specs.Prelude.{◌≡◌, refl, List, [], ◌∷◌, ◌++◌, Bool, true, false, ◌&&◌, ◌||◌, ◌⊎◌, ℕ, zero, suc, ◌+◌, ◌<◌, ◌≤◌, eqb, ltb, length, set}
+use Rattle.std.proofs.Common.{sym, subst, inl, inr, arith, eq-eqb, ne_eqb, ltb-false, eqb-true}
 use Rattle.std.proofs.lemmas.Bool.{eqb-false}
 use Rattle.names.specs.If.{if}
 use Rattle.names.specs.Names.{is_name}
