@@ -2,10 +2,10 @@
 use Rattle.report.proofs.say_stuck_in.Goals as goal
 
 pub list_names-used-requires : goal.list_names-used-requires
-list_names-used-requires c = record { room = c.requires.room; in_bounds = c.requires.in_bounds }
+list_names-used-requires c = record { room = c.requires.room; in_bounds = c.requires.in_bounds.0 }
 
 pub say_run-requires : goal.say_run-requires
-say_run-requires c = c.requires.1.1
+say_run-requires c = c.requires.in_bounds.1
 
 pub returns : goal.returns
 returns c = rw c.list_names-used.ensures.is at c.say_run.ensures
