@@ -1,4 +1,5 @@
-// The functions that C calls: numbers and byte slices only. docs/HOST.md has every number; include/tyttmose.h declares them.
+// The functions that C calls, by the exports of host_c: numbers and byte slices only. docs/HOST.md has every number;
+// include/tyttmose.h declares them.
 #![tactic(auto)]
 
 ghost use Rattle.std.specs.Prelude.{◌≡◌};
@@ -82,8 +83,7 @@ fn session_number(a: Answer) -> u64
     }
 }
 
-#[unsafe(no_mangle)]
-pub extern "C" fn tyttmose_read(text: &[u8], value: &mut [u8]) -> u64
+pub fn tyttmose_read(text: &[u8], value: &mut [u8]) -> u64
     ensures { Reads text.now value.old result value.new }
 {
     let r = aut::read_file(text);
@@ -98,45 +98,39 @@ pub extern "C" fn tyttmose_read(text: &[u8], value: &mut [u8]) -> u64
     refused(behaviour::refuse(12, 0))
 }
 
-#[unsafe(no_mangle)]
-pub extern "C" fn tyttmose_write(value: &[u8], text: &mut [u8]) -> u64
+pub fn tyttmose_write(value: &[u8], text: &mut [u8]) -> u64
     ensures { Writes value.now text.old result text.new }
 {
     written_number(writer::write(packing::unpack(value), text))
 }
 
-#[unsafe(no_mangle)]
-pub extern "C" fn tyttmose_verdict(client: &[u8], server: &[u8], run: &mut [u8]) -> u64
+pub fn tyttmose_verdict(client: &[u8], server: &[u8], run: &mut [u8]) -> u64
     ensures { Judges client.now server.now run.old result run.new }
 {
     verdict_number(verdict::judge(packing::unpack(client), packing::unpack(server), run))
 }
 
-#[unsafe(no_mangle)]
-pub extern "C" fn tyttmose_open(client: &[u8], server: &[u8]) -> u64
+pub fn tyttmose_open(client: &[u8], server: &[u8]) -> u64
     ensures { Opens client.now server.now result }
 {
     session_number(session::open(packing::unpack(client), packing::unpack(server)))
 }
 
-#[unsafe(no_mangle)]
-pub extern "C" fn tyttmose_message(client: &[u8], server: &[u8], session: u32, name: &[u8]) -> u64
+pub fn tyttmose_message(client: &[u8], server: &[u8], session: u32, name: &[u8]) -> u64
     ensures { Messages client.now server.now session name.now result }
 {
     let z = session_of(session);
     session_number(z.message(packing::unpack(client), packing::unpack(server), name))
 }
 
-#[unsafe(no_mangle)]
-pub extern "C" fn tyttmose_rollback(client: &[u8], server: &[u8], session: u32) -> u64
+pub fn tyttmose_rollback(client: &[u8], server: &[u8], session: u32) -> u64
     ensures { RollsBack client.now server.now session result }
 {
     let z = session_of(session);
     session_number(z.rollback(packing::unpack(client), packing::unpack(server)))
 }
 
-#[unsafe(no_mangle)]
-pub extern "C" fn tyttmose_text(client: &[u8], server: &[u8], text: &mut [u8]) -> u64
+pub fn tyttmose_text(client: &[u8], server: &[u8], text: &mut [u8]) -> u64
     ensures { Texts client.now server.now text.old result text.new }
 {
     reported_number(report::report(client, server, text))
