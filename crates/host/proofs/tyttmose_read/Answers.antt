@@ -1,5 +1,5 @@
 -- `host::tyttmose_read` meets its contract.
-use Rattle.std.proofs.Common.{ap, ◌∙◌, true, false, eq-eqb, ne_eqb}
+use Rattle.std.proofs.Common.{ap, ◌∙◌, eq-eqb, ne_eqb}
 use Rattle.host.specs.Numbers.{refused_number}
 use Rattle.host.proofs.tyttmose_read.Goals as goal
 
@@ -14,7 +14,7 @@ returns-then-pack c =
     let f = c.read_file-r in
     let n = eq-eqb f.result.refusal.number 0 c.if-f-ne0.false in
     let p = c.pack.ensures in
-    record { says = rw (← f.ensures, n, ← p.0, c.if-pack.true); leaves = rw (← f.ensures, n) p.1 }
+    record { says = rw (← f.ensures, n, ← p.says, c.if-pack.true); leaves = rw (← f.ensures, n) p.leaves }
 
 pub returns : goal.returns
 returns c =
@@ -22,6 +22,6 @@ returns c =
     let n = eq-eqb f.result.refusal.number 0 c.if-f-ne0.false in
     let p = c.pack.ensures in
     record {
-      says = rw (← f.ensures, n, ← p.0, c.if-pack.false) (c.refused-2.ensures ∙ ap refused_number c.refuse.ensures);
-      leaves = rw (← f.ensures, n) p.1;
+      says = rw (← f.ensures, n, ← p.says, c.if-pack.false) (c.refused-2.ensures ∙ ap refused_number c.refuse.ensures);
+      leaves = rw (← f.ensures, n) p.leaves;
     }
