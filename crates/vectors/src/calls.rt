@@ -5,6 +5,8 @@ use crate::words::{after, next};
 use behaviour::Behaviour;
 use session::{Answer, Session};
 use stands::{ClientPoint, ClientState, ServerPoint, ServerState, Stand};
+use std::io;
+use std::rt::Files;
 
 // A pair, and the session that the last granted call handed back.
 #[derive(Clone, Copy)]
@@ -14,49 +16,49 @@ pub struct Play {
     pub session: Session,
 }
 
-fn print_client(g: ClientPoint) {
+fn print_client(rt: &impl Print, g: ClientPoint) -> io::Result<()> {
     match g {
-        ClientPoint::Nowhere => print(b"-"),
-        ClientPoint::To(x) => print_number(x.0 as u64),
+        ClientPoint::Nowhere => print(rt, b"-"),
+        ClientPoint::To(x) => print_number(rt, x.0 as u64),
     }
 }
 
-fn print_server(h: ServerPoint) {
+fn print_server(rt: &impl Print, h: ServerPoint) -> io::Result<()> {
     match h {
-        ServerPoint::Nowhere => print(b"-"),
-        ServerPoint::To(y) => print_number(y.0 as u64),
+        ServerPoint::Nowhere => print(rt, b"-"),
+        ServerPoint::To(y) => print_number(rt, y.0 as u64),
     }
 }
 
-fn print_stand(p: Stand) {
+fn print_stand(rt: &impl Print, p: Stand) -> io::Result<()> {
     let x = p.client;
     let y = p.server;
     let g = p.clientpoint;
     let h = p.serverpoint;
-    print_number(x.0 as u64);
-    print(b" ");
-    print_client(g);
-    print(b" ");
-    print_number(y.0 as u64);
-    print(b" ");
-    print_server(h);
+    print_number(rt, x.0 as u64)?;
+    print(rt, b" ")?;
+    print_client(rt, g)?;
+    print(rt, b" ")?;
+    print_number(rt, y.0 as u64)?;
+    print(rt, b" ")?;
+    print_server(rt, h)
 }
 
 // The answer is printed; the session that then holds. "A refused session call hands back no session: the one given still holds".
-fn answered(a: Answer, s: Session) -> Session {
-    print(b" -> ");
+fn answered(rt: &impl Print, a: Answer, s: Session) -> io::Result<Session> {
+    print(rt, b" -> ")?;
     match a {
         Answer::Next(n) => {
             let p = n.stand;
-            print_stand(p);
-            print(b"\n");
-            n
+            print_stand(rt, p)?;
+            print(rt, b"\n")?;
+            Ok(n)
         }
         Answer::Refused(f) => {
-            print(b"refused ");
-            print_refusal(f);
-            print(b"\n");
-            s
+            print(rt, b"refused ")?;
+            print_refusal(rt, f)?;
+            print(rt, b"\n")?;
+            Ok(s)
         }
     }
 }
@@ -105,17 +107,17 @@ fn placed(line: &[u8]) -> Session {
     session_at(line[3], line[5], line[7], line[9])
 }
 
-fn side(path: &[u8]) -> Behaviour {
-    let read = crate::read_named(path);
+fn side(rt: &impl Files, path: &[u8]) -> Behaviour {
+    let read = crate::read_named(rt, path);
     let value = read.value;
     value
 }
 
 // The pair of two files, their names with a space between them, at the start. A file with no name counts as empty.
-pub fn pair(names: &[u8]) -> Play {
+pub fn pair(rt: &impl Files, names: &[u8]) -> Play {
     let a = next(names, 0, b' ');
-    let client = side(&names[..a]);
-    let server = side(after(names));
+    let client = side(rt, &names[..a]);
+    let server = side(rt, after(names));
     let session = session_at(b'0', b'-', b'0', b'-');
     Play {
         client,
@@ -124,37 +126,44 @@ pub fn pair(names: &[u8]) -> Play {
     }
 }
 
-fn run_call(line: &[u8], first: u8, client: Behaviour, server: Behaviour, s: Session) -> Session {
+fn run_call(
+    rt: &impl Print,
+    line: &[u8],
+    first: u8,
+    client: Behaviour,
+    server: Behaviour,
+    s: Session,
+) -> io::Result<Session> {
     if first == b'o' {
-        return answered(session::open(client, server), s);
+        return answered(rt, session::open(client, server), s);
     }
     if first == b'm' {
-        return answered(s.message(client, server, after(line)), s);
+        return answered(rt, s.message(client, server, after(line)), s);
     }
     if first == b'r' {
-        return answered(s.rollback(client, server), s);
+        return answered(rt, s.rollback(client, server), s);
     }
-    print(b"\n");
-    placed(line)
+    print(rt, b"\n")?;
+    Ok(placed(line))
 }
 
-pub fn run_line(p: Play, line: &[u8]) -> Play {
+pub fn run_line(rt: &(impl Files + Print), p: Play, line: &[u8]) -> io::Result<Play> {
     if line.len() == 0 {
-        return p;
+        return Ok(p);
     }
     let first = line[0];
-    print(line);
+    print(rt, line)?;
     if first == b'p' {
-        print(b"\n");
-        return pair(after(line));
+        print(rt, b"\n")?;
+        return Ok(pair(rt, after(line)));
     }
     let client = p.client;
     let server = p.server;
     let held = p.session;
-    let session = run_call(line, first, client, server, held);
-    Play {
+    let session = run_call(rt, line, first, client, server, held)?;
+    Ok(Play {
         client,
         server,
         session,
-    }
+    })
 }

@@ -1,18 +1,18 @@
 // What the program prints.
 use behaviour::Refusal;
-use libc::STDOUT_FILENO;
+use std::io;
 
-pub fn print(text: &[u8]) {
-    io::write_all(STDOUT_FILENO, text);
+pub fn print(rt: &impl Print, text: &[u8]) -> io::Result<()> {
+    rt.write_all(text)
 }
 
-pub fn print_number(n: u64) {
-    io::print_decimal(STDOUT_FILENO, n);
+pub fn print_number(rt: &impl Print, n: u64) -> io::Result<()> {
+    print!(rt; "{n}")
 }
 
 // Its number and its place.
-pub fn print_refusal(f: Refusal) {
-    print_number(f.number as u64);
-    print(b" ");
-    print_number(f.place as u64);
+pub fn print_refusal(rt: &impl Print, f: Refusal) -> io::Result<()> {
+    print_number(rt, f.number as u64)?;
+    print(rt, b" ")?;
+    print_number(rt, f.place as u64)
 }

@@ -1,5 +1,7 @@
 // How many proper prefixes of a file are refused, and how many are taken: of a good file none may be.
 use crate::out::{print, print_number};
+use std::io;
+use std::rt::Files;
 
 fn is_taken(text: &[u8]) -> bool {
     let read = aut::read_file(text);
@@ -8,7 +10,7 @@ fn is_taken(text: &[u8]) -> bool {
 }
 
 // Every prefix is read that is shorter than the text.
-fn try_all(text: &[u8]) {
+fn try_all(rt: &impl Print, text: &[u8]) -> io::Result<()> {
     let mut refused = 0;
     let mut taken = 0;
     let mut n = 0;
@@ -21,17 +23,17 @@ fn try_all(text: &[u8]) {
             n += 1;
         }
     }
-    print_number(refused);
-    print(b" refused ");
-    print_number(taken);
-    print(b" taken\n");
+    print_number(rt, refused)?;
+    print(rt, b" refused ")?;
+    print_number(rt, taken)?;
+    print(rt, b" taken\n")
 }
 
-pub fn run(path: &[u8]) {
+pub fn run(rt: &(impl Files + Print), path: &[u8]) -> io::Result<()> {
     let mut text = [0u8; 4097];
-    let n = files::load(path, &mut text);
-    print(b"prefixes ");
-    print(path);
-    print(b" ");
-    try_all(&text[..n]);
+    let n = files::load(rt, path, &mut text);
+    print(rt, b"prefixes ")?;
+    print(rt, path)?;
+    print(rt, b" ")?;
+    try_all(rt, &text[..n])
 }
