@@ -12,7 +12,7 @@ use Rattle.aut.specs.declared.Read.{Read}
 use Rattle.aut.specs.Adding.{bare, add}
 use Rattle.aut.specs.File.{finish, file}
 use Rattle.aut.specs.Swapping.{Open, open_add, swapped}
-use Rattle.aut.specs.Contents.{Accepted, Contents, contents_of, as_many, judged, AllTaken, add_all, taken-judged, judged-taken, file-short, accepted_ranges, file-judged}
+use Rattle.aut.specs.Contents.{Accepted, Contents, as_many, judged, AllTaken, add_all, taken-judged, judged-taken, file-short, accepted_ranges, file-judged}
 
 perm_length : {ls ms : List Line} → Permᴰ ls ms → length ls ≡ length ms
 perm_length Permᴰ.nil = refl
@@ -70,8 +70,3 @@ any_order s t c d e p h a =
     let o = open_bare (length c.others) c.first.states r.few_states (omega (arith, as_many s c, r.few-lines)) in
     let i = reordered p b o x in
     v ∙ taken-judged 2 b d.others i.taken ∙ ap finish i.value ∙ sym (taken-judged 2 b c.others x) ∙ sym u
-
--- two accepted files with the same first line, whose lines are the same in any order, give the same value
-pub same-value : (s t : List ℕ) (a : Accepted (file s)) (b : Accepted (file t)) → (contents_of s a).first ≡ (contents_of t b).first
-    → Permᴰ (contents_of s a).others (contents_of t b).others → (file t).value ≡ (file s).value
-same-value s t a b e p = ap (λ (r : Read). r.value) (any_order s t (contents_of s a) (contents_of t b) e p (file-short t b) a)

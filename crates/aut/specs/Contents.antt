@@ -98,7 +98,7 @@ pub record Ranges (h : Head) : Type 0 where
   pub few_states : h.states ≤ most_states
   pub few-lines : h.lines ≤ most_lines
 
-begin_ranges : (h : Head) (r : List ℕ) → Accepted (begin (got h r)) → Ranges h
+pub begin_ranges : (h : Head) (r : List ℕ) → Accepted (begin (got h r)) → Ranges h
 begin_ranges h r a = go (eqb h.start 0) (leb 1 h.states) (leb h.states most_states) (leb h.lines most_lines) refl refl refl refl a
   where
     go : (s t u v : Bool) → eqb h.start 0 ≡ s → leb 1 h.states ≡ t → leb h.states most_states ≡ u → leb h.lines most_lines ≡ v
@@ -110,7 +110,7 @@ begin_ranges h r a = go (eqb h.start 0) (leb 1 h.states) (leb h.states most_stat
     go true false u v p q x y z = absurd (omega arith)
     go false t u v p q x y z = absurd (omega arith)
 
-begin-lines : (h : Head) (r : List ℕ) → Ranges h → begin (got h r) ≡ lines h.lines 2 (bare h.states) r
+pub begin-lines : (h : Head) (r : List ℕ) → Ranges h → begin (got h r) ≡ lines h.lines 2 (bare h.states) r
 begin-lines h r a =
     rw (eq-eqb h.start 0 a.start-zero, le-leb 1 h.states a.some_states, le-leb h.states most_states a.few_states, le-leb h.lines most_lines a.few-lines)
 
@@ -133,40 +133,6 @@ module _ (s : List ℕ) (c : Contents s) where
   pub file-judged : length s ≤ most_bytes → Ranges c.first → file s ≡ judged 2 (bare c.first.states) c.others
   file-judged h r =
       opened h ∙ begin-lines c.first c.rest r ∙ lines-judged c.first.lines 2 (bare c.first.states) c.rest c.others c.others-read
-
--- an accepted file has contents
-record Readable (t : ℕ) (s : List ℕ) : Type 0 where
-  those : List Line
-  read : lines_read t s ≡ got those []
-
-module _ (p : ℕ) (b : Behaviour) (t : ℕ) (again : (c : Behaviour) (r : List ℕ) → Accepted (lines t (p + 1) c r) → Readable t r) where
-  readable-step : (s : List ℕ) (g : Got Line) → line s ≡ g → Accepted (next p b g (lines t (p + 1))) → Readable (suc t) s
-  unfolding lines_read
-  readable-step s off e a = absurd (omega arith)
-  readable-step s (got l r) e a = go (eqb (check b l) 0) refl a
-    where
-      more : Readable t r → Readable (suc t) s
-      more d = record { those = l ∷ d.those; read = rw (e, d.read) }
-
-      go : (x : Bool) → eqb (check b l) 0 ≡ x → Accepted (if x (lines t (p + 1) (add b l) r) (refuse (check b l) p)) → Readable (suc t) s
-      go true f h = more (again (add b l) r h)
-      go false f h = absurd (eqb-false (check b l) 0 f h)
-
-readable : (t p : ℕ) (b : Behaviour) (s : List ℕ) → Accepted (lines t p b s) → Readable t s
-unfolding lines lines_read
-readable zero p b [] a = record { those = []; read = refl }
-readable zero p b (c ∷ s) a = absurd (omega arith)
-readable (suc t) p b s a = readable-step p b t (λ c r h. readable t (p + 1) c r h) s (line s) refl a
-
-pub contents_of : (s : List ℕ) → Accepted (file s) → Contents s
-unfolding file
-contents_of s a = go (head s) refl (rw (le-leb (length s) most_bytes (file-short s a)) at a)
-  where
-    go : (g : Got Head) → head s ≡ g → Accepted (begin g) → Contents s
-    go off e h = absurd (omega arith)
-    go (got h r) e x =
-        let d = readable h.lines 2 (bare h.states) r (rw (begin-lines h r (begin_ranges h r x)) at x) in
-        record { first = h; others = d.those; rest = r; first_read = e; others-read = d.read }
 
 -- T lines are T lines
 module _ (t : ℕ) (again : (r : List ℕ) (ms : List Line) (u : List ℕ) → lines_read t r ≡ got ms u → length ms ≡ t) where
