@@ -31,7 +31,7 @@ use Rattle.session.specs.Answers.{fault, stepped, named, messaged, rolled_back}
 use Rattle.session.specs.Opening.{Begins}
 use Rattle.session.specs.Sides.{client_side, server_side}
 use Rattle.session.specs.Watched.{answered, handed_back, next, at, watched}
-use Rattle.session.specs.Demand3.{demand3, faultless}
+use Rattle.session.proofs.Demand3.{demand3, faultless}
 use Rattle.packing.specs.Value.{unpacked}
 use Rattle.packing.specs.Numbers.{unpacked_stand}
 use Rattle.packing.specs.Back.{unpacked-sized}

@@ -15,7 +15,7 @@ use Rattle.session.specs.Answers.{named}
 use Rattle.session.specs.Opening.{Begins}
 use Rattle.session.specs.Sides.{client_side, server_side}
 use Rattle.session.specs.Watched.{answered, handed_back, next, watched}
-use Rattle.session.specs.Demand3.{demand3}
+use Rattle.session.proofs.Demand3.{demand3}
 use Rattle.lines.specs.declared.Kept.{Kept}
 use Rattle.lines.specs.declared.Outcome.{Outcome}
 use Rattle.lines.specs.declared.Outcome.TheVariants as outcome

@@ -1,4 +1,4 @@
--- Calls from C: every answer is below 2^32 and a grant, or it is a refusal of the table and leaves lent memory as it was.
+-- Calls from C: what every answer is, and that a refusal is above every grant.
 use Rattle.std.specs.Prelude.{◌≡◌, refl, Bool, true, false, List, ℕ, ◌<◌, ◌≤◌, leb, eqb, length}
 use Rattle.std.proofs.Common.{ap, ◌∙◌, arith, ne_eqb, eq-eqb}
 use Rattle.std.proofs.Math.Option.{Option, none, some}
@@ -41,11 +41,8 @@ use Rattle.host.specs.Told.{stands-few, cause-told}
 use Rattle.host.specs.Calls.{Reads, Writes, Judges, Opens, Messages, RollsBack, Texts}
 use Rattle.promises.specs.Table
 use Rattle.promises.specs.Table.{Table as Row, InTable}
-use Rattle.promises.specs.Reading.{Reading, taken, refused as not_taken, reading}
 use Rattle.promises.specs.Values as values
 use Rattle.promises.specs.Values.{Writing, writing, judge-refused, report-granted, report-refused}
-use Rattle.promises.specs.Sessions as sessions
-use Rattle.promises.specs.Sessions.{Called, called, open_refused}
 
 -- Kept: what is lent is as it was
 pub data Answered (r : ℕ) (Kept : Type 0) : Type 0 where
@@ -76,23 +73,6 @@ some_number Table.rollback-not-possible = omega arith
 pub refused-above : (f : Refusal) → InTable f → 4294967296 ≤ refused_number f
 refused-above f t = omega (arith, some_number t)
 
-pub c_read : (bytes out left : List ℕ) (r : ℕ) → Reads bytes out r left → Answered r (left ≡ out)
-unfolding packing.left
-c_read bytes out left r h = go (reading bytes)
-  where
-    go : Reading (file bytes) → Answered r (left ≡ out)
-    go (taken e) = room (leb value_bytes (length out)) refl
-      where
-        zero_number : eqb (file bytes).refusal.number 0 ≡ true
-        zero_number = eq-eqb (file bytes).refusal.number 0 (ap (λ (i : Read). i.refusal.number) e)
-
-        room : (t : Bool) → leb value_bytes (length out) ≡ t → Answered r (left ≡ out)
-        room true f = granted (let i : r ≡ value_bytes = rw (zero_number, f) at h.says in omega arith)
-        room false f = refused writer.too_long (rw (zero_number, f) at h.says) Table.longer_than_lent (rw (zero_number, f) at h.leaves)
-    go (not_taken t v) =
-        let i : eqb (file bytes).refusal.number 0 ≡ false = ne_eqb (file bytes).refusal.number 0 (λ z. omega (arith, some_number t)) in
-        refused (file bytes).refusal (rw i at h.says) t (rw i at h.leaves)
-
 by-writing : (b : Behaviour) (out left : List ℕ) (r : ℕ) (w : Written) → Writing b out w left → r ≡ written_number w → Answered r (left ≡ out)
 by-writing b out left r (written.Bytes n) (values.granted e l) i = granted (omega (arith, i, lengths.text-few b (parts b e).most-lines))
 by-writing b out left r (written.Refused f) w i = let t = values.writing-refused w in refused f i t.0 t.1
@@ -102,31 +82,7 @@ c_write value out left r h =
     by-writing (unpacked value) out left r (writer.written (unpacked value) out)
     (writing (unpacked value) out (writer.written (unpacked value) out) left (refl, h.leaves)) h.says
 
-pub c_judge : (c s run left : List ℕ) (r : ℕ) → Judges c s run r left → Answered r (left ≡ run)
-unfolding Says
-c_judge c s run left r h = go h.verdict h.says h.number
-  where
-    go : (v : Verdict) → Says (unpacked c) (unpacked s) run v left → r ≡ verdict_number v → Answered r (left ≡ run)
-    go (verdict.Compliant k) y i = granted (omega (arith, i, stands-few (unpacked c) (unpacked s) (unpacked-sized c) (unpacked-sized s) y.sounds k y.judged))
-    go (verdict.Stuck e n) y i =
-        granted (omega (
-          arith,
-          i,
-          y.long,
-          (cause-told (unpacked c) (unpacked s) (unpacked-sized c) (unpacked-sized s) y.sounds e y.steps y.judged).1,
-          run-few (unpacked c) (unpacked s) e y.steps y.sounds.client y.sounds.server (unpacked-sized c) (unpacked-sized s) y.judged,
-        ))
-    go (verdict.Refused f) y i = let t = judge-refused (unpacked c) (unpacked s) run left f y in refused f i t.0 t.1
-
-pub c_text : (f g out left : List ℕ) (r : ℕ) → Texts f g out r left → Answered r (left ≡ out)
-c_text f g out left r h = go h.reported h.reports h.number
-  where
-    go : (a : Reported) → Reports f g out a left → r ≡ reported_number a → Answered r (left ≡ out)
-    go (reported.Bytes n) y i =
-        granted (report-granted f g out left n y (r < 4294967296) (λ e. omega (arith, e, printed_few f g y.text y.prints)))
-    go (reported.Refused x) y i = let t = report-refused f g out x left y in refused x i t.0 t.1
-
--- where a granted session call leads, states are in range and return points marked
+-- a stand with states in range and return points marked is below 2^32
 module _ (c s : List ℕ) (k : BothSound (unpacked c) (unpacked s)) where
   abbrev C : Behaviour
   C = unpacked c
@@ -136,40 +92,3 @@ module _ (c s : List ℕ) (k : BothSound (unpacked c) (unpacked s)) where
 
   pub small : (p : Stand) → Sound C S p → packed_stand p < 4294967296
   small p o = packed-below p (kept.small C S (unpacked-sized c) (unpacked-sized s) k p o)
-
-  said-sound : (p q : Stand) → Sound C S p → (o : Option ℕ) → said C S p o ≡ some q → Sound C S q
-  said-sound p q h none e = absurd (let z : ◌≡◌ {A = ℕ} 0 1 = cc in omega arith)
-  said-sound p q h (some n) e = message-sound C S (ranged C (unpacked-sized c) k.client) (ranged S (unpacked-sized s) k.server) p h n q e
-
-  rolled-sound : (p q : Stand) → Sound C S p → rules.rollback p ≡ some q → Sound C S q
-  rolled-sound p q h e = rollback-sound C S (ranged C (unpacked-sized c) k.client) (ranged S (unpacked-sized s) k.server) p h q e
-
--- of a message or rollback call
-by_call : (c s : List ℕ) (p : Stand) (n r : ℕ) (o : Option Stand) (a : Answer) → Row n 0 → Called (unpacked c) (unpacked s) p n o a
-    → (BothSound (unpacked c) (unpacked s) → Sound (unpacked c) (unpacked s) p → (q : Stand) → o ≡ some q → Sound (unpacked c) (unpacked s) q)
-    → r ≡ session_number a → Answered r Unit
-by_call c s p n r o (answer.Next z) t (sessions.step b h q e) f i = granted (omega (arith, i, small c s b q (f b h q e)))
-by_call c s p n r o (answer.Refused x) t w f i = refused x i (sessions.call-refused t w) tt
-
-pub c_open : (c s : List ℕ) (r : ℕ) → Opens c s r → Answered r Unit
-unfolding session.Opens packed_stand
-c_open c s r h = go h.answer h.opens h.number
-  where
-    go : (a : Answer) → session.Opens (unpacked c) (unpacked s) a → r ≡ session_number a → Answered r Unit
-    go (answer.Next z) y i = granted (let j : r ≡ session_number (answer.Next session.opened) = i ∙ ap (λ (u : Session). session_number (answer.Next u)) y.begins in omega arith)
-    go (answer.Refused f) y i = refused f i (open_refused (unpacked c) (unpacked s) f y) tt
-
-pub c_message : (c s : List ℕ) (n : ℕ) (name : List ℕ) (r : ℕ) → Messages c s n name r → Answered r Unit
-unfolding messaged
-c_message c s n name r h =
-    let p = (session_of n).stand in
-    let o = said (unpacked c) (unpacked s) p (named name) in
-    by_call c s p 16 r o (messaged (unpacked c) (unpacked s) (session_of n) name) Table.message-not-possible (called (unpacked c) (unpacked s) p 16 o)
-    (λ b w q e. said-sound c s b p q w (named name) e) h
-
-pub c_rollback : (c s : List ℕ) (n r : ℕ) → RollsBack c s n r → Answered r Unit
-unfolding rolled_back
-c_rollback c s n r h =
-    let p = (session_of n).stand in
-    by_call c s p 17 r (rules.rollback p) (rolled_back (unpacked c) (unpacked s) (session_of n)) Table.rollback-not-possible (called (unpacked c) (unpacked s) p 17 (rules.rollback p))
-    (λ b w q e. rolled-sound c s b p q w e) h

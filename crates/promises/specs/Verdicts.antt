@@ -10,7 +10,7 @@ use Rattle.runs.specs.System.{ToBad, Reachable, Earlier, IsVerdict}
 use Rattle.stands.specs.Stands.{cause, pair}
 use Rattle.stands.specs.Judgement.{compliant, stuck, Judged}
 use Rattle.compliance.specs.Compliance.{Compliant}
-use Rattle.compliance.specs.NoBadRun.{compliant-is, stuck-is}
+use Rattle.compliance.proofs.NoBadRun.{compliant-is, stuck-is}
 use Rattle.compliance.specs.OneJudgement.{judged_unique}
 use Rattle.roundtrip.specs.Theorems.{Given}
 use Rattle.verdict.specs.declared.Verdict.{Verdict}
@@ -31,7 +31,7 @@ pub record Shortest (c s : Behaviour) (w : List ℕ) : Type 0 where
   pub first : (v : List ℕ) → ToBad (pair c s) v → Earlier v w → ⊥
 
 module _ (c s : Behaviour) (run : List ℕ) where
-  clash : {A : Type 0} (k e : ℕ) (w : List ℕ) → Judged c s (compliant k) → Judged c s (stuck e w) → A
+  pub clash : {A : Type 0} (k e : ℕ) (w : List ℕ) → Judged c s (compliant k) → Judged c s (stuck e w) → A
   clash k e w a b = absurd (let h = judged_unique c s (compliant k) (stuck e w) a b in let z : ◌≡◌ {A = ℕ} 0 1 = cc in omega arith)
 
   reaches : (e : ℕ) (w : List ℕ) → Judged c s (stuck e w) → ToBad (pair c s) w
@@ -55,7 +55,7 @@ module _ (c s : Behaviour) (run : List ℕ) where
   not-compliant e w j = stuck-is c s w j.0
 
   -- the judgement that a shortest run gives
-  judged : (w : List ℕ) (h : Shortest c s w) → Judged c s (stuck (cause c s h.bad.node) w)
+  pub judged : (w : List ℕ) (h : Shortest c s w) → Judged c s (stuck (cause c s h.bad.node) w)
   unfolding Judged IsVerdict
   judged w h = ((h.bad, h.first), λ p e. let i : p ≡ h.bad.node = cc (e, h.bad.leads) in ap (cause c s) i)
 
@@ -99,19 +99,6 @@ module _ (c s : Behaviour) (run : List ℕ) where
             let j = judged_unique c s (stuck t.cause t.steps) (stuck (cause c s k.bad.node) w) t.judged (judged w k) in
             let b : t.steps ≡ w = cc in
             omega (arith, l, t.over, ap length b)
-
-    pub longer-refused : (v : Verdict) → Says c s run v left → (w : List ℕ) → Shortest c s w → length run < length w → (v ≡ verdict.Refused (refusal 12 0)) × (left ≡ run)
-    unfolding Says
-    longer-refused (verdict.Compliant n) y w k l = clash n (cause c s k.bad.node) w y.judged (judged w k)
-    longer-refused (verdict.Stuck e n) y w k l =
-        let j = judged_unique c s (stuck e y.steps) (stuck (cause c s k.bad.node) w) y.judged (judged w k) in
-        let b : y.steps ≡ w = cc in
-        absurd (omega (arith, l, y.fits, y.long, ap length b))
-    longer-refused (verdict.Refused f) y w k l = (ap verdict.Refused (go y.why), y.kept)
-      where
-        go : Unsound c s f ⊎ TooLong c s run f → f ≡ refusal 12 0
-        go (inl u) = absurd (one_unsound c s u.which (g, h))
-        go (inr t) = t.is
 
     pub count_given : (k : ℕ) → Says c s run (verdict.Compliant k) left → Reachable (pair c s) k × (left ≡ run)
     unfolding Says

@@ -10,3 +10,4 @@ pub mod Listing
 pub mod Accepted
 pub mod Judging
 pub mod Reporting
+pub mod Within

@@ -7,4 +7,3 @@ pub mod Examples
 pub mod Followed
 pub mod Listed
 pub mod Judges
-pub mod Within

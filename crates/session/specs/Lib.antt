@@ -6,4 +6,3 @@ pub mod Sides
 pub mod Watched
 pub mod Steps
 pub mod Range
-pub mod Demand3

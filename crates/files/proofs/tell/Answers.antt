@@ -1,5 +1,5 @@
 -- `files::tell` meets its contract: what `report` counts are bytes of the text.
-use Rattle.report.specs.Within.{within}
+use Rattle.report.proofs.Within.{within}
 use Rattle.files.proofs.tell.Goals as goal
 
 pub returns-in-Bytes : goal.returns-in-Bytes

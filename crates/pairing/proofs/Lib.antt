@@ -1,0 +1,3 @@
+-- The laws of `pairing` that rest on the kinds of stop.
+pub mod Sides
+pub mod OnDemand
