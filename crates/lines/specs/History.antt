@@ -1,4 +1,4 @@
--- Calls on a lent record give the same history as the calls by value, and so meet demand 3.
+-- A line whose record is lent to any list of calls, and what is seen of it.
 use Rattle.std.specs.Prelude.{◌≡◌, refl, Bool, true, false}
 use Rattle.std.proofs.Math.Path.{sym, ap}
 use Rattle.std.proofs.Common.{◌∙◌, subst}
@@ -34,36 +34,3 @@ granted (outcome.Refused f) = false
 
 abbrev pub seen_of : {c s : Behaviour} {z : Session} → Line c s z → Seen ClientState ServerState
 seen_of l = record { granted = λ h k. granted (l.says h k); client = λ h. (l.holds h).stand.client; server = λ h. (l.holds h).stand.server }
-
-kept-session : (z : Session) (a : Answer) → (kept_of z a).session ≡ or_else z (handed_back a)
-kept-session z (answer.Next y) = refl
-kept-session z (answer.Refused f) = refl
-
-kept-granted : (z : Session) (a : Answer) → granted (kept_of z a).outcome ≡ has (handed_back a)
-kept-granted z (answer.Next y) = refl
-kept-granted z (answer.Refused f) = refl
-
-module _ (c s : Behaviour) (z : Session) (l : Line c s z) where
-  -- the record holds the session that the calls by value would hand on
-  pub same-session : (h : Calls) → l.holds h ≡ session (next c s) z h
-  unfolding session
-  same-session opening = l.first
-  same-session (h then k) =
-      sym (ap (λ (r : Kept). r.session) (l.kept h k)) ∙ kept-session (l.holds h) (answered c s (l.holds h) k)
-      ∙ ap (λ y. or_else y (next c s y k)) (same-session h)
-
-  -- and the same calls are granted
-  pub same-granted : (h : Calls) (k : Call) → granted (l.says h k) ≡ (watched c s z).granted h k
-  same-granted h k =
-      sym (ap (λ (r : Kept). granted r.outcome) (l.kept h k)) ∙ kept-granted (l.holds h) (answered c s (l.holds h) k)
-      ∙ ap (λ y. has (next c s y k)) (same-session h)
-
-  pub same_seen : seen_of l ≡ watched c s z
-  same_seen = λ i. record {
-    granted = λ h k. same-granted h k i;
-    client = λ h. (same-session h i).stand.client;
-    server = λ h. (same-session h i).stand.server;
-  }
-
-  pub lines-demand3 : Begins c s z → Demand named (client_side c) (server_side s) (seen_of l)
-  lines-demand3 b = subst (Demand named (client_side c) (server_side s)) (sym same_seen) (demand3 c s z b)

@@ -40,6 +40,7 @@ use Rattle.session.specs.Sides.{client_side, server_side}
 use Rattle.session.specs.Watched.{watched}
 use Rattle.session.proofs.Demand3.{demand3}
 use Rattle.lines.specs.History as lent
+use Rattle.lines.proofs.History.{lines-demand3}
 use Rattle.promises.specs.Table.{InTable}
 use Rattle.promises.specs.Reading.{Reading}
 use Rattle.promises.specs.Values.{Longer, LongerText}
@@ -136,4 +137,4 @@ pub record Demand3 : Type 0 where
 
 -- THE THEOREM of demand 3; those of demands 1 and 2: proofs/Promises.antt
 pub demand_3 : Demand3
-demand_3 = record { by_value = demand3; on-a-line = lent.lines-demand3; as_a-number = number-demand3 }
+demand_3 = record { by_value = demand3; on-a-line = lines-demand3; as_a-number = number-demand3 }
