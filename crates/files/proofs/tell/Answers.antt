@@ -3,7 +3,4 @@ use Rattle.report.proofs.Within.{within}
 use Rattle.files.proofs.tell.Goals as goal
 
 pub returns-in-Bytes : goal.returns-in-Bytes
-returns-in-Bytes c = within c.report-told.ensures c.told.given.1
-
-pub returns-in-Refused : goal.returns-in-Refused
-returns-in-Refused c = c.count.ensures.in_bounds
+returns-in-Bytes c = within c.report-told.ensures c.in-Bytes.is

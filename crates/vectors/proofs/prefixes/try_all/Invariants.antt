@@ -3,7 +3,7 @@ use Rattle.std.proofs.Common.{◌+◌, ◌-◌, ◌≤◌, ◌≡◌, length}
 use Rattle.vectors.proofs.prefixes.try_all.Given as goal
 
 abbrev pub invariant-loop-n : goal.invariant-loop-n
-invariant-loop-n l = (l.n + taken ≡ n) × (n ≤ length l.text)
+invariant-loop-n g l = (l.refused + l.taken ≡ l.n) × (l.n ≤ length l.text)
 
 abbrev pub decreases-loop-n : goal.decreases-loop-n
-decreases-loop-n l = length l.text - n
+decreases-loop-n g l = length l.text - l.n
