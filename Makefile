@@ -6,8 +6,7 @@ VERSION = 0.1.0
 AT = $(DESTDIR)$(PREFIX)
 
 all:
-	rt staticlib host
-	rt check judge
+	tools/build library judge
 
 install: all
 	install -d $(AT)/include $(AT)/lib/pkgconfig $(AT)/bin $(AT)/share/man/man1 $(AT)/share/man/man3

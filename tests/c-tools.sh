@@ -26,9 +26,7 @@ export CC RUNNER
 # in the environment is taken as it is.
 library() {
     [ -n "${LIBRARY:-}" ] && return
+    "$1/tools/build" library || return
     LIBRARY=$(cd "$1" && pwd)/target/staticlib/libhost.a
     export LIBRARY
-    [ -f "$LIBRARY" ] && [ -z "$(find "$1/crates" "$1/crates.txt" -newer "$LIBRARY" -print -quit)" ] && return
-    mkdir -p "$1/target/log"
-    (cd "$1" && rt staticlib host >"target/log/staticlib.out" 2>&1) || { tail -n 5 "$1/target/log/staticlib.out" >&2; return 1; }
 }
