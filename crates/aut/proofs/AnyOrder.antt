@@ -4,7 +4,7 @@ use Rattle.std.proofs.Common.{ap}
 use mathlib.Core.List.{List, Permᴰ}
 use Rattle.aut.specs.declared.Read.{Read}
 use Rattle.aut.specs.File.{file}
-use Rattle.aut.specs.Contents.{Accepted, Contents, file-short}
+use Rattle.aut.specs.Contents.{Accepted, file-short}
 use Rattle.aut.specs.AnyOrder.{any_order}
 use Rattle.aut.proofs.Contents.{contents_of}
 

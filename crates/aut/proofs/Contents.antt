@@ -1,5 +1,5 @@
 -- An accepted file has contents: the laws of `Contents` that rest on how a line that can't be read is refused.
-use Rattle.std.specs.Prelude.{◌≡◌, Bool, true, false, ℕ, zero, suc, ◌+◌, ◌≤◌, eqb, leb, length}
+use Rattle.std.specs.Prelude.{◌≡◌, Bool, true, false, ℕ, zero, suc, ◌+◌, eqb, length}
 use Rattle.std.proofs.Math.Path.{refl}
 use Rattle.std.proofs.Common.{arith, le-leb}
 use mathlib.Core.List.{List, [], ◌∷◌}
@@ -10,7 +10,7 @@ use Rattle.tokens.specs.Lines.{line, head}
 use Rattle.tokens.specs.declared.Line.{Line}
 use Rattle.tokens.specs.declared.Head.{Head}
 use Rattle.behaviour.specs.declared.Behaviour.{Behaviour}
-use Rattle.behaviour.specs.Limits.{most_states, most_lines, most_bytes}
+use Rattle.behaviour.specs.Limits.{most_bytes}
 use Rattle.aut.specs.Adding.{bare, add, check}
 use Rattle.aut.specs.File.{refuse, next, lines, begin, file}
 use Rattle.aut.specs.Contents.{Accepted, Contents, lines_read, begin_ranges, begin-lines, file-short}

@@ -1,5 +1,5 @@
 -- What a line adds to a behaviour value, and which refusal it meets.
-use Rattle.std.specs.Prelude.{List, [], ◌∷◌, ◌++◌, Bool, true, false, ◌&&◌, ℕ, ◌+◌, ltb, eqb, get_or, set, take, drop, replicate}
+use Rattle.std.specs.Prelude.{List, [], ◌∷◌, ◌++◌, Bool, true, false, ◌&&◌, ℕ, ◌+◌, ltb, eqb, get_or, set, drop, replicate}
 use Rattle.names.specs.If.{if}
 use Rattle.tokens.specs.declared.Label.{Label}
 use Rattle.tokens.specs.declared.Label.TheVariants.{Mark, Take, Send, Other}

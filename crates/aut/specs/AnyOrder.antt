@@ -3,12 +3,10 @@ use Rattle.std.specs.Prelude.{◌≡◌, refl, ℕ, suc, ◌≤◌, length}
 use Rattle.std.proofs.Common.{sym, ap, ◌∙◌, arith}
 use mathlib.Core.List.{List, Permᴰ}
 use Rattle.std.proofs.lemmas.List.{length-replicate}
-use Rattle.tokens.specs.Lines.{line}
 use Rattle.tokens.specs.declared.Line.{Line}
 use Rattle.behaviour.specs.declared.Behaviour.{Behaviour}
 use Rattle.behaviour.specs.Pick.{unused}
 use Rattle.behaviour.specs.Limits.{most_states, most_lines, most_bytes}
-use Rattle.aut.specs.declared.Read.{Read}
 use Rattle.aut.specs.Adding.{bare, add}
 use Rattle.aut.specs.File.{finish, file}
 use Rattle.aut.specs.Swapping.{Open, open_add, swapped}

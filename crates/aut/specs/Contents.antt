@@ -5,7 +5,7 @@ use Rattle.std.proofs.Common.{ap, ◌∙◌, arith, eqb-true, eq-eqb, le-leb, le
 use mathlib.Core.List.{List, [], ◌∷◌}
 use Rattle.std.proofs.lemmas.Bool.{eqb-false}
 use Rattle.names.specs.If.{if}
-use Rattle.tokens.specs.Parse.{Got, got, off, and_then, ◌>>=◌, ◌>>◌}
+use Rattle.tokens.specs.Parse.{Got, got, off, and_then, ◌>>=◌}
 use Rattle.tokens.specs.OneAnswer.{off-not-got}
 use Rattle.tokens.specs.Lines.{line, head}
 use Rattle.tokens.specs.declared.Line.{Line}

@@ -1,5 +1,5 @@
 -- What a description file gives: "The description file" of 01, and its refusals 1 to 11 in their order with their places.
-use Rattle.std.specs.Prelude.{List, [], ◌∷◌, Bool, true, false, ◌&&◌, ℕ, zero, suc, ◌+◌, leb, ltb, eqb, length}
+use Rattle.std.specs.Prelude.{List, [], ◌∷◌, ◌&&◌, ℕ, zero, suc, ◌+◌, leb, ltb, eqb, length}
 use Rattle.names.specs.If.{if}
 use Rattle.tokens.specs.Parse.{Got, got, off}
 use Rattle.tokens.specs.Lines.{line, head}

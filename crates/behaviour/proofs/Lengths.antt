@@ -1,7 +1,5 @@
 -- The lengths of a value's arrays, from what owning the value tells (`c.good`), for the code of every crate above.
-use mathlib.Core.Path.{◌≡◌}
 use mathlib.Core.List.{List}
-use lib.ListN.{length, length-map}
 use mir.Val.{Val}
 use denote.Laws.{Is}
 use denote.Struct.Laws as struct

@@ -1,6 +1,6 @@
 -- What a sound value (01's refusal 13) has, for the crates above.
-use Rattle.std.specs.Prelude.{◌≡◌, refl, List, [], ◌∷◌, Bool, true, false, ◌&&◌, ◌||◌, not, ℕ, zero, suc, ◌+◌, ◌*◌, ◌<◌, ◌≤◌, leb, ltb, eqb, length, get_or, take, drop}
-use Rattle.std.proofs.Common.{sym, ap, subst, ◌∙◌, ⊎_elim, arith, mul-le-mul, ltb-true, leb-true, eqb-true, ltb-false, lt-ltb, le-ltb, le-leb, eq-eqb}
+use Rattle.std.specs.Prelude.{◌≡◌, refl, List, [], ◌∷◌, Bool, true, false, ◌&&◌, ◌||◌, not, ℕ, zero, suc, ◌+◌, ◌*◌, ◌<◌, ◌≤◌, leb, ltb, eqb, length, get_or, drop}
+use Rattle.std.proofs.Common.{sym, ◌∙◌, ⊎_elim, arith, mul-le-mul, ltb-true, leb-true, eqb-true, ltb-false, le-leb, eq-eqb}
 use Rattle.std.proofs.lemmas.Bool.{eqb-false, not-true}
 use Rattle.std.proofs.Math.ListN.{get_or-eq_default}
 use Rattle.names.specs.If.{if}

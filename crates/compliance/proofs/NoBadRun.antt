@@ -1,11 +1,11 @@
 -- Definition 3.1 and runs: a pair is compliant exactly if no run reaches a bad stand.
 use Rattle.std.proofs.Math.Path.{◌≡◌, refl, ap, subst}
-use Rattle.std.proofs.Common.{sym, ◌∙◌, inl, inr, arith, eq-eqb}
-use Rattle.std.specs.Prelude.{Bool, ◌&&◌, ◌||◌, ◌⊎◌, ◌↔◌, ltb, eqb}
+use Rattle.std.proofs.Common.{sym, inl, inr, arith, eq-eqb}
+use Rattle.std.specs.Prelude.{Bool, ◌||◌, ◌⊎◌, ◌↔◌, eqb}
 use Rattle.std.proofs.Math.Bool.{true, false}
-use mathlib.Core.List.{List, [], ◌∷◌, ◌++◌}
-use Rattle.std.proofs.Math.Option.{Option, none, some}
-use Prim.Native.Nat.{ℕ, zero, suc, ◌≤◌, ◌<◌, ◌+◌}
+use mathlib.Core.List.{List, [], ◌∷◌}
+use Rattle.std.proofs.Math.Option.{none, some}
+use Prim.Native.Nat.{ℕ, zero, suc, ◌<◌}
 use Rattle.behaviour.specs.declared.Behaviour.{Behaviour}
 use Rattle.stands.specs.declared.ClientPoint.{ClientPoint}
 use Rattle.stands.specs.declared.ClientPoint.TheVariants as client
@@ -13,11 +13,10 @@ use Rattle.stands.specs.declared.ServerPoint.{ServerPoint}
 use Rattle.stands.specs.declared.ServerPoint.TheVariants as server
 use Rattle.stands.specs.declared.Stand.{Stand}
 use Rattle.names.specs.If.{if}
-use Rattle.stands.specs.Stands.{among, empty, names, finished, possible, moved, message, rollback, even, evenly, cause, start, step, pair}
+use Rattle.stands.specs.Stands.{among, empty, names, finished, possible, moved, message, even, evenly, cause, start, step, pair}
 use Rattle.compliance.specs.Compliance.{Neither, Both, Ended, H, Closed, Greatest, Compliant}
 use Rattle.compliance.specs.Labels.{Few, labelled}
-use Rattle.compliance.specs.Kinds.{Kind, by-message, by-rollback, kind}
-use Rattle.runs.specs.System.{System, from, after, ToBad, Verdict, compliant, stuck, IsVerdict}
+use Rattle.runs.specs.System.{from, ToBad, compliant, stuck, IsVerdict}
 use Rattle.runs.specs.Rank.{opened}
 use Rattle.compliance.specs.NoBadRun.{Safe, after-step, stays}
 

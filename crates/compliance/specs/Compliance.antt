@@ -1,6 +1,6 @@
 -- Definition 3.1 of source 001, with its condition 1 read on forward steps, as 01 says.
-use Rattle.std.specs.Prelude.{◌≡◌, List, [], ◌⊎◌, ℕ}
-use Rattle.std.proofs.Math.Option.{Option, none, some}
+use Rattle.std.specs.Prelude.{◌≡◌, [], ◌⊎◌, ℕ}
+use Rattle.std.proofs.Math.Option.{none, some}
 use Rattle.behaviour.specs.declared.Behaviour.{Behaviour}
 use Rattle.stands.specs.declared.ClientState.{ClientState}
 use Rattle.stands.specs.declared.ServerState.{ServerState}

@@ -1,23 +1,15 @@
 -- Stands from which no run reaches a bad one, and what a checkpoint compliance relation keeps.
-use Rattle.std.proofs.Math.Path.{◌≡◌, refl, ap, subst}
-use Rattle.std.proofs.Common.{sym, ◌∙◌, inl, inr, arith, eq-eqb}
-use Rattle.std.specs.Prelude.{Bool, ◌&&◌, ◌||◌, ◌⊎◌, ◌↔◌, ltb, eqb}
-use Rattle.std.proofs.Math.Bool.{true, false}
-use mathlib.Core.List.{List, [], ◌∷◌, ◌++◌}
-use Rattle.std.proofs.Math.Option.{Option, none, some}
-use Prim.Native.Nat.{ℕ, zero, suc, ◌≤◌, ◌<◌, ◌+◌}
+use Rattle.std.proofs.Math.Path.{◌≡◌, subst}
+use mathlib.Core.List.{List, [], ◌∷◌}
+use Rattle.std.proofs.Math.Option.{some}
+use Prim.Native.Nat.{ℕ, ◌<◌}
 use Rattle.behaviour.specs.declared.Behaviour.{Behaviour}
-use Rattle.stands.specs.declared.ClientPoint.{ClientPoint}
-use Rattle.stands.specs.declared.ClientPoint.TheVariants as client
-use Rattle.stands.specs.declared.ServerPoint.{ServerPoint}
-use Rattle.stands.specs.declared.ServerPoint.TheVariants as server
 use Rattle.stands.specs.declared.Stand.{Stand}
-use Rattle.names.specs.If.{if}
-use Rattle.stands.specs.Stands.{among, empty, names, finished, possible, moved, message, rollback, even, evenly, cause, start, step, pair}
-use Rattle.compliance.specs.Compliance.{Neither, Both, Ended, H, Closed, Greatest, Compliant}
-use Rattle.compliance.specs.Labels.{Few, labelled}
+use Rattle.stands.specs.Stands.{cause, start, step, pair}
+use Rattle.compliance.specs.Compliance.{H, Closed, Greatest, Compliant}
+use Rattle.compliance.specs.Labels.{Few}
 use Rattle.compliance.specs.Kinds.{Kind, by-message, by-rollback, kind}
-use Rattle.runs.specs.System.{System, from, after, ToBad, Verdict, compliant, stuck, IsVerdict}
+use Rattle.runs.specs.System.{from}
 use Rattle.runs.specs.Rank.{opened}
 
 module _ (c s : Behaviour) where

@@ -33,7 +33,11 @@ fn read_file(rt: &impl Files, path: &[u8], text: &mut [u8]) -> io::Result<usize>
         return Ok(0);
     };
     let mut file = File::open(rt, name)?;
-    read_full(&mut file, text)
+    let got = read_full(&mut file, text)?;
+    // A read that fails behind the last byte makes the file count as empty too.
+    let mut more = [0u8; 1];
+    file.read(&mut more)?;
+    Ok(got)
 }
 
 // The bytes of the file `path`, as many as `text` takes: how many. A file that can't be read counts as empty.

@@ -1,12 +1,10 @@
 -- Calls on a lent record give the same history as the calls by value, and so meet demand 3.
-use Rattle.std.specs.Prelude.{◌≡◌, refl, Bool, true, false}
+use Rattle.std.specs.Prelude.{◌≡◌, refl}
 use Rattle.std.proofs.Math.Path.{sym, ap}
 use Rattle.std.proofs.Common.{◌∙◌, subst}
 use Rattle.behaviour.specs.declared.Behaviour.{Behaviour}
-use Rattle.stands.specs.declared.ClientState.{ClientState}
-use Rattle.stands.specs.declared.ServerState.{ServerState}
 use Rattle.history.specs.Calls.{Call, Calls, opening, ◌then◌}
-use Rattle.history.specs.Demand.{Seen, Demand}
+use Rattle.history.specs.Demand.{Demand}
 use Rattle.history.specs.Played.{has, or_else, session}
 use Rattle.session.specs.declared.Session.{Session}
 use Rattle.session.specs.declared.Answer.{Answer}
@@ -17,8 +15,6 @@ use Rattle.session.specs.Sides.{client_side, server_side}
 use Rattle.session.specs.Watched.{answered, handed_back, next, watched}
 use Rattle.session.proofs.Demand3.{demand3}
 use Rattle.lines.specs.declared.Kept.{Kept}
-use Rattle.lines.specs.declared.Outcome.{Outcome}
-use Rattle.lines.specs.declared.Outcome.TheVariants as outcome
 use Rattle.lines.specs.Lent.{kept_of}
 use Rattle.lines.specs.History.{Line, granted, seen_of}
 

@@ -1,22 +1,12 @@
 -- A line whose record is lent to any list of calls, and what is seen of it.
-use Rattle.std.specs.Prelude.{◌≡◌, refl, Bool, true, false}
-use Rattle.std.proofs.Math.Path.{sym, ap}
-use Rattle.std.proofs.Common.{◌∙◌, subst}
+use Rattle.std.specs.Prelude.{◌≡◌, Bool, true, false}
 use Rattle.behaviour.specs.declared.Behaviour.{Behaviour}
 use Rattle.stands.specs.declared.ClientState.{ClientState}
 use Rattle.stands.specs.declared.ServerState.{ServerState}
 use Rattle.history.specs.Calls.{Call, Calls, opening, ◌then◌}
-use Rattle.history.specs.Demand.{Seen, Demand}
-use Rattle.history.specs.Played.{has, or_else, session}
+use Rattle.history.specs.Demand.{Seen}
 use Rattle.session.specs.declared.Session.{Session}
-use Rattle.session.specs.declared.Answer.{Answer}
-use Rattle.session.specs.declared.Answer.TheVariants as answer
-use Rattle.session.specs.Answers.{named}
-use Rattle.session.specs.Opening.{Begins}
-use Rattle.session.specs.Sides.{client_side, server_side}
-use Rattle.session.specs.Watched.{answered, handed_back, next, watched}
-use Rattle.session.proofs.Demand3.{demand3}
-use Rattle.lines.specs.declared.Kept.{Kept}
+use Rattle.session.specs.Watched.{answered}
 use Rattle.lines.specs.declared.Outcome.{Outcome}
 use Rattle.lines.specs.declared.Outcome.TheVariants as outcome
 use Rattle.lines.specs.Lent.{kept_of}

@@ -2,13 +2,13 @@
 use mathlib.Core.Path.{◌≡◌, refl, sym, ap, ◌∙◌}
 use mathlib.Core.List.{List, [], ◌∷◌, ◌++◌, append_assoc, append-nil}
 use Prim.Native.Nat.{ℕ, zero, suc, ◌+◌, ◌*◌, ◌-◌, ◌/◌, ◌%◌, ◌<◌, ◌≤◌}
-use native.Mathlib.Numerals.{add-one, sub-one}
+use native.Mathlib.Numerals.{sub-one}
 use native.Mathlib.Omega.{arith}
-use lib.ListN.{length, get_or, set, take, drop, length-set, length-append, drop_of_length-le}
-use lib.Seq.{sets, sets-eq, length-sets, set_comm}
+use lib.ListN.{length, get_or, set, drop, length-set, drop_of_length-le}
+use lib.Seq.{sets, sets-eq, set_comm}
 use Rattle.names.specs.Names.{name_bytes}
 use Rattle.names.specs.Places.{here, sets-append}
-use Rattle.behaviour.specs.Limits.{most_states, most_lines}
+use Rattle.behaviour.specs.Limits.{most_states}
 use Rattle.behaviour.specs.declared.Message.{Message}
 use Rattle.behaviour.specs.declared.Behaviour.{Behaviour}
 use Rattle.behaviour.specs.Pick.{unused}

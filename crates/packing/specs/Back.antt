@@ -1,5 +1,5 @@
 -- A value is what its bytes unpack to, and bytes are what their value packs to: each has one other.
-use Rattle.std.specs.Prelude.{◌≡◌, refl, List, [], ◌∷◌, ◌++◌, ℕ, zero, suc, ◌+◌, ◌*◌, ◌/◌, ◌%◌, ◌^◌, ◌<◌, ◌≤◌, Bool, true, false, eqb, length, get_or, take, drop}
+use Rattle.std.specs.Prelude.{◌≡◌, refl, List, [], ◌∷◌, ◌++◌, ℕ, zero, suc, ◌+◌, ◌*◌, ◌/◌, ◌%◌, ◌^◌, ◌<◌, ◌≤◌, Bool, true, false, eqb, length, take, drop}
 use Rattle.std.proofs.Common.{sym, ap, ap₂, ◌∙◌, append_assoc, append-nil, arith, eq-eqb, eqb-true, length-append, length-drop, take-append-drop, drop-drop, length-take-le}
 use Rattle.std.proofs.Math.Seq.{take_at, drop_at}
 use Rattle.names.specs.If.{if}

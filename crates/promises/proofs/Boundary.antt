@@ -1,16 +1,10 @@
 -- Calls from C: every answer is below 2^32 and a grant, or it is a refusal of the table and leaves lent memory as it was.
-use Rattle.std.specs.Prelude.{◌≡◌, refl, Bool, true, false, List, ℕ, ◌<◌, ◌≤◌, leb, eqb, length}
+use Rattle.std.specs.Prelude.{◌≡◌, refl, Bool, true, false, List, ℕ, ◌<◌, leb, eqb, length}
 use Rattle.std.proofs.Common.{ap, ◌∙◌, arith, ne_eqb, eq-eqb}
 use Rattle.std.proofs.Math.Option.{Option, none, some}
 use Rattle.behaviour.specs.declared.Behaviour.{Behaviour}
-use Rattle.behaviour.specs.declared.Refusal.{Refusal}
-use Rattle.behaviour.specs.SoundLaws.{parts}
 use Rattle.aut.specs.declared.Read.{Read}
 use Rattle.aut.specs.File.{file}
-use Rattle.writer.specs.declared.Written.{Written}
-use Rattle.writer.specs.declared.Written.TheVariants as written
-use Rattle.writer.specs.Text.{text}
-use Rattle.writer.specs.Lengths as lengths
 use Rattle.writer.specs.Written as writer
 use Rattle.stands.specs.declared.Stand.{Stand}
 use Rattle.stands.specs.Stands.{said}
@@ -30,21 +24,18 @@ use Rattle.report.specs.declared.Reported.TheVariants as reported
 use Rattle.report.specs.Reports.{Reports}
 use Rattle.report.proofs.Few.{run-few}
 use Rattle.packing.specs.Back.{unpacked-sized}
-use Rattle.packing.specs.BackStand.{packed-below}
 use Rattle.packing.specs.Numbers.{packed_stand}
 use Rattle.packing.specs.Value.{value_bytes, unpacked}
 use Rattle.packing.specs.Value as packing
-use Rattle.host.specs.Numbers.{refused_number, written_number, verdict_number, reported_number, session_number, session_of}
+use Rattle.host.specs.Numbers.{verdict_number, reported_number, session_number, session_of}
 use Rattle.host.specs.Enough.{printed_few}
-use Rattle.host.specs.Sessions as kept
 use Rattle.host.specs.Told.{stands-few, cause-told}
-use Rattle.host.specs.Calls.{Reads, Writes, Judges, Opens, Messages, RollsBack, Texts}
+use Rattle.host.specs.Calls.{Reads, Judges, Opens, Messages, RollsBack, Texts}
 use Rattle.promises.specs.Table
 use Rattle.promises.specs.Table.{Table as Row, InTable}
 use Rattle.promises.specs.Reading.{Reading, taken, refused as not_taken}
 use Rattle.promises.proofs.Reading.{reading}
-use Rattle.promises.specs.Values as values
-use Rattle.promises.specs.Values.{Writing, writing, judge-refused, report-granted, report-refused}
+use Rattle.promises.specs.Values.{judge-refused, report-granted, report-refused}
 use Rattle.promises.specs.Sessions as sessions
 use Rattle.promises.specs.Sessions.{Called, open_refused}
 use Rattle.promises.proofs.Sessions.{called, call-refused}

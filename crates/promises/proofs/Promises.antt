@@ -1,52 +1,22 @@
 -- Demands 1 and 2 hold.
-use Rattle.std.specs.Prelude.{◌≡◌, List, ◌++◌, ◌↔◌, ℕ, ◌<◌, ◌≤◌, length, take, drop}
+use Rattle.std.specs.Prelude.{take}
 use Rattle.std.proofs.Common.{sym, ap, subst, ◌∙◌, arith}
-use Rattle.std.proofs.Math.Option.{none}
-use Rattle.behaviour.specs.declared.Behaviour.{Behaviour}
-use Rattle.behaviour.specs.declared.Refusal.{Refusal}
-use Rattle.behaviour.specs.Limits.{most_bytes}
-use Rattle.behaviour.specs.Refusals.{refusal}
-use Rattle.behaviour.specs.SoundLaws.{Sized}
-use Rattle.aut.specs.File.{file, accept}
-use Rattle.roundtrip.specs.Theorems.{Given, read-sound, sound-written}
-use Rattle.writer.specs.declared.Written.{Written}
+use Rattle.aut.specs.File.{accept}
+use Rattle.roundtrip.specs.Theorems.{read-sound, sound-written}
 use Rattle.writer.specs.declared.Written.TheVariants as written
-use Rattle.writer.specs.Text.{text}
-use Rattle.writer.specs.Written.{Writes}
-use Rattle.runs.specs.System.{ToBad, Reachable}
 use Rattle.stands.specs.Stands.{said, cause, pair}
 use Rattle.stands.specs.Stands as rules
-use Rattle.compliance.specs.Compliance.{Compliant}
-use Rattle.compliance.specs.SoundStand.{Sound}
 use Rattle.verdict.specs.declared.Verdict.{Verdict}
-use Rattle.verdict.specs.declared.Verdict.TheVariants as verdict
 use Rattle.verdict.specs.Answer.{Says}
-use Rattle.session.specs.declared.Session.{Session}
-use Rattle.session.specs.declared.Answer.{Answer}
-use Rattle.session.specs.declared.Answer.TheVariants as answer
-use Rattle.session.specs.Answers.{refused, named, messaged, rolled_back}
-use Rattle.session.specs.Opening.{Begins, Opens}
-use Rattle.lines.specs.declared.Outcome.TheVariants as outcome
-use Rattle.lines.specs.Lent.{kept_of, OpensInto}
-use Rattle.report.specs.declared.Reported.{Reported}
-use Rattle.report.specs.declared.Reported.TheVariants as reported
-use Rattle.report.specs.Reports.{Reports}
-use Rattle.host.specs.Calls as host
-use Rattle.host.specs.Sessions.{watched_number, number-demand3}
-use Rattle.packing.specs.Value.{value_bytes, unpacked}
-use Rattle.history.specs.Demand.{Demand}
-use Rattle.session.specs.Sides.{client_side, server_side}
-use Rattle.session.specs.Watched.{watched}
-use Rattle.session.proofs.Demand3.{demand3}
-use Rattle.lines.specs.History as lent
-use Rattle.promises.specs.Table.{InTable}
+use Rattle.session.specs.Answers.{named, messaged, rolled_back}
+use Rattle.packing.specs.Value.{value_bytes}
 use Rattle.promises.proofs.Reading.{reading}
 use Rattle.promises.specs.Values as values
 use Rattle.promises.specs.Values.{Longer, LongerText, writing}
 use Rattle.promises.specs.Sessions as sessions
 use Rattle.promises.proofs.Sessions as calls
 use Rattle.promises.proofs.Sessions.{called}
-use Rattle.promises.specs.Verdicts.{TurnedDown, Shortest, by-definition, turned_down, shortest_given, count_given}
+use Rattle.promises.specs.Verdicts.{by-definition, turned_down, shortest_given, count_given}
 use Rattle.promises.proofs.Verdicts.{longer-refused}
 use Rattle.promises.proofs.Boundary as c
 use Rattle.promises.specs.Boundary.{c_write}

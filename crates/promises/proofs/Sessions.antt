@@ -1,35 +1,25 @@
 -- A message or rollback call is one of the cases, and is refused by the table.
-use Rattle.std.specs.Prelude.{◌≡◌, refl, Bool, true, false, List, ◌⊎◌, ◌↔◌, ℕ}
+use Rattle.std.specs.Prelude.{◌≡◌, refl, Bool, true, false, List, ◌↔◌, ℕ}
 use Rattle.std.proofs.Common.{sym, subst, ◌∙◌, inl, inr, arith}
-use Rattle.std.proofs.Math.Path.{ap}
 use Rattle.std.proofs.Math.Option.{Option, none, some}
 use Rattle.names.specs.If.{if}
 use Rattle.behaviour.specs.declared.Behaviour.{Behaviour}
 use Rattle.behaviour.specs.declared.Refusal.{Refusal}
-use Rattle.behaviour.specs.Refusals.{refusal}
 use Rattle.behaviour.specs.Sound.{sound}
-use Rattle.behaviour.specs.SoundLaws.{Sized, parts}
+use Rattle.behaviour.specs.SoundLaws.{Sized}
 use Rattle.roundtrip.specs.Theorems.{Given}
 use Rattle.stands.specs.declared.Stand.{Stand}
-use Rattle.compliance.specs.Compliance.{Compliant}
-use Rattle.compliance.specs.Labels.{Few, few}
-use Rattle.compliance.proofs.NoBadRun.{compliant-is, stuck-is}
 use Rattle.compliance.specs.SoundStand.{Sound}
 use Rattle.steps.specs.Tests.{is_stand, stand-sound, sound-stand}
-use Rattle.stands.specs.Judgement.{Judged}
 use Rattle.verdict.specs.Answer.{BothSound}
 use Rattle.stands.specs.Stands as rules
 use Rattle.session.specs.declared.Session.{Session}
 use Rattle.session.specs.declared.Answer.{Answer}
 use Rattle.session.specs.declared.Answer.TheVariants as answer
 use Rattle.session.specs.Answers.{refused, fault, checked, stepped, named, messaged, rolled_back}
-use Rattle.session.specs.Opening.{Opens}
-use Rattle.lines.specs.declared.Kept.{Kept}
-use Rattle.lines.specs.declared.Outcome.TheVariants as outcome
-use Rattle.lines.specs.Lent.{kept_of, OpensInto}
 use Rattle.promises.specs.Table
 use Rattle.promises.specs.Table.{InTable}
-use Rattle.promises.specs.Values.{unlike, number, one_unsound, both-sound, sounds}
+use Rattle.promises.specs.Values.{unlike, one_unsound, both-sound}
 use Rattle.promises.specs.Sessions.{Called, unsound, no-stand, off, step, other, granted-not}
 
 pub called : (c s : Behaviour) (p : Stand) (k : ℕ) (o : Option Stand) → Called c s p k o (checked (fault c s p) (stepped k o))

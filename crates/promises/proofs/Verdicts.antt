@@ -1,23 +1,19 @@
 -- A run that is longer than the lent buffer is refused with 12.
-use Rattle.std.proofs.Math.Path.{◌≡◌, sym, ap, ap₂}
-use Rattle.std.specs.Prelude.{refl, ◌⊎◌, ◌↔◌, ℕ, ◌<◌, ◌≤◌}
-use Rattle.std.proofs.Common.{◌∙◌, inl, inr, arith}
-use mathlib.Core.List.{List, ◌++◌}
-use Rattle.std.proofs.Math.ListN.{length, drop}
+use Rattle.std.proofs.Math.Path.{◌≡◌, ap}
+use Rattle.std.specs.Prelude.{◌⊎◌, ℕ, ◌<◌}
+use Rattle.std.proofs.Common.{inl, inr, arith}
+use mathlib.Core.List.{List}
+use Rattle.std.proofs.Math.ListN.{length}
 use Rattle.behaviour.specs.declared.Behaviour.{Behaviour}
 use Rattle.behaviour.specs.Refusals.{refusal}
-use Rattle.runs.specs.System.{ToBad, Reachable, Earlier, IsVerdict}
-use Rattle.stands.specs.Stands.{cause, pair}
-use Rattle.stands.specs.Judgement.{compliant, stuck, Judged}
-use Rattle.compliance.specs.Compliance.{Compliant}
-use Rattle.compliance.proofs.NoBadRun.{compliant-is, stuck-is}
+use Rattle.stands.specs.Stands.{cause}
+use Rattle.stands.specs.Judgement.{stuck}
 use Rattle.compliance.specs.OneJudgement.{judged_unique}
 use Rattle.roundtrip.specs.Theorems.{Given}
 use Rattle.verdict.specs.declared.Verdict.{Verdict}
 use Rattle.verdict.specs.declared.Verdict.TheVariants as verdict
-use Rattle.verdict.specs.Answer.{BothSound, Unsound, TooLong, Says}
+use Rattle.verdict.specs.Answer.{Unsound, TooLong, Says}
 use Rattle.promises.specs.Values.{one_unsound}
-use Rattle.promises.specs.Sessions.{few-names}
 use Rattle.promises.specs.Verdicts.{Shortest, clash, judged}
 
 module _ (c s : Behaviour) (run : List ℕ) where

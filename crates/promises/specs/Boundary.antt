@@ -1,44 +1,23 @@
 -- Calls from C: what every answer is, and that a refusal is above every grant.
-use Rattle.std.specs.Prelude.{◌≡◌, refl, Bool, true, false, List, ℕ, ◌<◌, ◌≤◌, leb, eqb, length}
-use Rattle.std.proofs.Common.{ap, ◌∙◌, arith, ne_eqb, eq-eqb}
-use Rattle.std.proofs.Math.Option.{Option, none, some}
+use Rattle.std.specs.Prelude.{◌≡◌, refl, List, ℕ, ◌<◌, ◌≤◌}
+use Rattle.std.proofs.Common.{arith}
 use Rattle.behaviour.specs.declared.Behaviour.{Behaviour}
 use Rattle.behaviour.specs.declared.Refusal.{Refusal}
 use Rattle.behaviour.specs.SoundLaws.{parts}
-use Rattle.aut.specs.declared.Read.{Read}
-use Rattle.aut.specs.File.{file}
 use Rattle.writer.specs.declared.Written.{Written}
 use Rattle.writer.specs.declared.Written.TheVariants as written
-use Rattle.writer.specs.Text.{text}
 use Rattle.writer.specs.Lengths as lengths
 use Rattle.writer.specs.Written as writer
 use Rattle.stands.specs.declared.Stand.{Stand}
-use Rattle.stands.specs.Stands.{said}
-use Rattle.stands.specs.Stands as rules
-use Rattle.compliance.specs.Kept.{ranged, message-sound, rollback-sound}
 use Rattle.compliance.specs.SoundStand.{Sound}
-use Rattle.verdict.specs.declared.Verdict.{Verdict}
-use Rattle.verdict.specs.declared.Verdict.TheVariants as verdict
-use Rattle.verdict.specs.Answer.{BothSound, Says}
-use Rattle.session.specs.declared.Session.{Session}
-use Rattle.session.specs.declared.Answer.{Answer}
-use Rattle.session.specs.declared.Answer.TheVariants as answer
-use Rattle.session.specs.Answers.{named, messaged, rolled_back}
-use Rattle.session.specs.Opening as session
-use Rattle.report.specs.declared.Reported.{Reported}
-use Rattle.report.specs.declared.Reported.TheVariants as reported
-use Rattle.report.specs.Reports.{Reports}
-use Rattle.report.proofs.Few.{run-few}
+use Rattle.verdict.specs.Answer.{BothSound}
 use Rattle.packing.specs.Back.{unpacked-sized}
 use Rattle.packing.specs.BackStand.{packed-below}
 use Rattle.packing.specs.Numbers.{packed_stand}
-use Rattle.packing.specs.Value.{value_bytes, unpacked}
-use Rattle.packing.specs.Value as packing
-use Rattle.host.specs.Numbers.{refused_number, written_number, verdict_number, reported_number, session_number, session_of}
-use Rattle.host.specs.Enough.{printed_few}
+use Rattle.packing.specs.Value.{unpacked}
+use Rattle.host.specs.Numbers.{refused_number, written_number}
 use Rattle.host.specs.Sessions as kept
-use Rattle.host.specs.Told.{stands-few, cause-told}
-use Rattle.host.specs.Calls.{Reads, Writes, Judges, Opens, Messages, RollsBack, Texts}
+use Rattle.host.specs.Calls.{Writes}
 use Rattle.promises.specs.Table
 use Rattle.promises.specs.Table.{Table as Row, InTable}
 use Rattle.promises.specs.Values as values

@@ -1,7 +1,6 @@
 -- Demands 1, 2 and 3, each as one theorem over the definitions that the functions' statements cite.
 -- A name in brackets is the function whose statement a line begins from.
 use Rattle.std.specs.Prelude.{◌≡◌, List, ◌++◌, ◌↔◌, ℕ, ◌<◌, ◌≤◌, length, take, drop}
-use Rattle.std.proofs.Common.{sym, ap, subst, ◌∙◌, arith}
 use Rattle.std.proofs.Math.Option.{none}
 use Rattle.behaviour.specs.declared.Behaviour.{Behaviour}
 use Rattle.behaviour.specs.declared.Refusal.{Refusal}
@@ -9,7 +8,7 @@ use Rattle.behaviour.specs.Limits.{most_bytes}
 use Rattle.behaviour.specs.Refusals.{refusal}
 use Rattle.behaviour.specs.SoundLaws.{Sized}
 use Rattle.aut.specs.File.{file, accept}
-use Rattle.roundtrip.specs.Theorems.{Given, read-sound, sound-written}
+use Rattle.roundtrip.specs.Theorems.{Given}
 use Rattle.writer.specs.declared.Written.{Written}
 use Rattle.writer.specs.declared.Written.TheVariants as written
 use Rattle.writer.specs.Text.{text}

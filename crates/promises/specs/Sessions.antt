@@ -1,9 +1,8 @@
 -- Session calls: which refusal each gives, and exactly when.
-use Rattle.std.specs.Prelude.{◌≡◌, refl, Bool, true, false, List, ◌⊎◌, ◌↔◌, ℕ}
+use Rattle.std.specs.Prelude.{◌≡◌, refl, false, ◌⊎◌, ◌↔◌, ℕ}
 use Rattle.std.proofs.Common.{sym, subst, ◌∙◌, inl, inr, arith}
 use Rattle.std.proofs.Math.Path.{ap}
 use Rattle.std.proofs.Math.Option.{Option, none, some}
-use Rattle.names.specs.If.{if}
 use Rattle.behaviour.specs.declared.Behaviour.{Behaviour}
 use Rattle.behaviour.specs.declared.Refusal.{Refusal}
 use Rattle.behaviour.specs.Refusals.{refusal}
@@ -15,21 +14,19 @@ use Rattle.compliance.specs.Compliance.{Compliant}
 use Rattle.compliance.specs.Labels.{Few, few}
 use Rattle.compliance.proofs.NoBadRun.{compliant-is, stuck-is}
 use Rattle.compliance.specs.SoundStand.{Sound}
-use Rattle.steps.specs.Tests.{is_stand, stand-sound, sound-stand}
 use Rattle.stands.specs.Judgement.{Judged}
 use Rattle.verdict.specs.Answer.{BothSound}
-use Rattle.stands.specs.Stands as rules
 use Rattle.session.specs.declared.Session.{Session}
 use Rattle.session.specs.declared.Answer.{Answer}
 use Rattle.session.specs.declared.Answer.TheVariants as answer
-use Rattle.session.specs.Answers.{refused, fault, checked, stepped, named, messaged, rolled_back}
+use Rattle.session.specs.Answers.{refused}
 use Rattle.session.specs.Opening.{Opens}
 use Rattle.lines.specs.declared.Kept.{Kept}
 use Rattle.lines.specs.declared.Outcome.TheVariants as outcome
 use Rattle.lines.specs.Lent.{kept_of, OpensInto}
 use Rattle.promises.specs.Table
 use Rattle.promises.specs.Table.{InTable}
-use Rattle.promises.specs.Values.{unlike, number, one_unsound, both-sound, sounds}
+use Rattle.promises.specs.Values.{number, one_unsound, both-sound}
 
 -- the names of two values that files give are few enough for the labels
 pub few-names : (c s : Behaviour) → BothSound c s → Few c s

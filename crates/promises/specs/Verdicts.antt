@@ -1,6 +1,6 @@
 -- The verdict on two values that files give: compliant, or turned down with the shortest run to a bad stand.
 use Rattle.std.proofs.Math.Path.{◌≡◌, sym, ap, ap₂}
-use Rattle.std.specs.Prelude.{refl, ◌⊎◌, ◌↔◌, ℕ, ◌<◌, ◌≤◌}
+use Rattle.std.specs.Prelude.{refl, ◌⊎◌, ◌↔◌, ℕ, ◌≤◌}
 use Rattle.std.proofs.Common.{◌∙◌, inl, inr, arith}
 use mathlib.Core.List.{List, ◌++◌}
 use Rattle.std.proofs.Math.ListN.{length, drop}

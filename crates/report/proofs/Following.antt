@@ -1,13 +1,13 @@
 -- The lines of a run that leads somewhere, by following the client alone, are those of `RunText`.
-use mathlib.Core.Path.{◌≡◌, refl, sym, ◌∙◌, ap, ap₂, subst}
+use mathlib.Core.Path.{◌≡◌, refl, sym, subst}
 use mathlib.Core.Bool.{Bool, true, false}
-use mathlib.Core.List.{List, [], ◌∷◌, ◌++◌}
+use mathlib.Core.List.{List, [], ◌∷◌}
 use mathlib.Core.Option.{Option, none, some}
-use Prim.Native.Nat.{ℕ, zero, suc, ◌+◌, ◌<◌, ◌≤◌}
+use Prim.Native.Nat.{ℕ, zero, suc, ◌+◌, ◌<◌}
 use native.Mathlib.Omega.{arith}
 use borrow.Author.Tests.{ltb-true, eqb-true, ne_eqb}
 use lib.Dec.{ltb, eqb}
-use lib.ListN.{length, get_or}
+use lib.ListN.{get_or}
 use Rattle.names.specs.If.{if}
 use Rattle.behaviour.specs.declared.Behaviour.{Behaviour}
 use Rattle.stands.specs.declared.ClientPoint.{ClientPoint}
@@ -15,10 +15,10 @@ use Rattle.stands.specs.declared.ClientPoint.TheVariants as client
 use Rattle.stands.specs.declared.ServerPoint.{ServerPoint}
 use Rattle.stands.specs.declared.ServerPoint.TheVariants as server
 use Rattle.stands.specs.declared.Stand.{Stand}
-use Rattle.stands.specs.Stands.{target, marked, possible, among, moved, message, back, rollback, start, alphabet, nth, rollback_byte, said, step, pair}
+use Rattle.stands.specs.Stands.{marked, possible, among, moved, message, back, rollback, start, alphabet, nth, said, step, pair}
 use Rattle.runs.specs.System.{from, after}
 use Rattle.runs.specs.Rank.{opened}
-use Rattle.report.specs.RunText.{rbk, named, seen, step_line, step_lines}
+use Rattle.report.specs.RunText.{seen, step_lines}
 use Rattle.report.specs.Followed.{step_label, next_state, next_home, followed}
 
 -- the state that the client goes back to, if it has a return point

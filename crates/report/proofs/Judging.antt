@@ -1,23 +1,23 @@
 -- From the verdict's answer to what is told of the pair.
-use mathlib.Core.Path.{◌≡◌, refl, sym, ◌∙◌, ap, subst}
-use mathlib.Core.Bool.{true, false}
-use mathlib.Core.List.{List, [], ◌∷◌, ◌++◌}
+use mathlib.Core.Path.{◌≡◌, sym, ◌∙◌, ap, subst}
+use mathlib.Core.Bool.{false}
+use mathlib.Core.List.{List}
 use mathlib.Core.Logic.{◌⊎◌, inl, inr}
 use Prim.Native.Nat.{ℕ, ◌≤◌, ◌<◌}
 use native.Mathlib.Omega.{arith}
-use lib.ListN.{length, take, drop, length-take, length-append}
+use lib.ListN.{length, take, drop, length-append}
 use lib.Seq.{take_at, length-take-le}
 use Rattle.behaviour.specs.declared.Behaviour.{Behaviour}
 use Rattle.behaviour.specs.declared.Refusal.{Refusal}
 use Rattle.behaviour.specs.Sound.{sound}
 use Rattle.names.specs.Tests.{no}
 use Rattle.stands.specs.Stands.{alphabet}
-use Rattle.stands.specs.Judgement.{Judgement, compliant, stuck, Judged}
+use Rattle.stands.specs.Judgement.{compliant, stuck, Judged}
 use Rattle.stands.specs.Cases.{bytes}
 use Rattle.runs.specs.System as runs
 use Rattle.verdict.specs.declared.Verdict.{Verdict}
 use Rattle.verdict.specs.declared.Verdict.TheVariants as verdict
-use Rattle.verdict.specs.Answer.{Says, SaysCompliant, SaysStuck, SaysRefused, Unsound, TooLong}
+use Rattle.verdict.specs.Answer.{Says, SaysCompliant, SaysStuck, Unsound, TooLong}
 use Rattle.report.specs.declared.Reported.{Reported}
 use Rattle.report.specs.RunText.{run_text}
 use Rattle.report.specs.Output.{compliant_text, judged_text}

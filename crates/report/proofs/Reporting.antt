@@ -1,6 +1,6 @@
 -- From what the two files are read as to the whole report.
 use mathlib.Core.Path.{◌≡◌, refl, sym, ◌∙◌, ap, subst}
-use mathlib.Core.List.{List, [], ◌∷◌, ◌++◌}
+use mathlib.Core.List.{List, [], ◌∷◌}
 use Prim.Native.Nat.{ℕ}
 use lib.ListN.{length}
 use Rattle.aut.specs.declared.Read.{Read}
@@ -8,7 +8,7 @@ use Rattle.aut.specs.File.{file}
 use Rattle.stands.specs.Cases.{bytes}
 use Rattle.roundtrip.specs.Theorems.{read-sound}
 use Rattle.report.specs.declared.Reported.{Reported}
-use Rattle.report.specs.Output.{refused_text, judged_text, Prints, client-refused, server-refused, both-judged}
+use Rattle.report.specs.Output.{refused_text, judged_text, client-refused, server-refused, both-judged}
 use Rattle.report.specs.Reports.{Tells, Reports}
 use Rattle.report.specs.Judges.{CanJudge, Judges}
 use Rattle.report.proofs.Accepted.{accepted}

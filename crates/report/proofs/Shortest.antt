@@ -1,14 +1,14 @@
 -- The earliest run to a bad node passes no node twice: it is shorter than the number of nodes.
-use mathlib.Core.Path.{◌≡◌, refl, sym, ◌∙◌, ap, subst}
+use mathlib.Core.Path.{◌≡◌, refl, sym, ◌∙◌, ap}
 use mathlib.Core.List.{List, [], ◌∷◌, ◌++◌}
 use mathlib.Core.Option.{Option, none, some}
 use mathlib.Core.Logic.{inl}
-use Prim.Native.Nat.{ℕ, suc, ◌≤◌, ◌<◌, ◌+◌, ◌-◌}
+use Prim.Native.Nat.{ℕ, suc, ◌≤◌, ◌<◌}
 use native.Mathlib.Omega.{arith}
 use native.Mathlib.Decide.{dec_lt}
 use lib.ListN.{length, take, drop, length-append, length-drop, take-append-drop}
 use lib.Seq.{length-take-le}
-use Rattle.runs.specs.System.{System, from, after, Earlier, ToBad, stuck, IsVerdict}
+use Rattle.runs.specs.System.{System, from, after, Earlier, ToBad}
 use Rattle.runs.specs.Rank.{opened}
 use Rattle.runs.specs.Unique.{pigeon}
 

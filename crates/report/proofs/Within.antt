@@ -1,6 +1,6 @@
 -- The bytes that `report` counts are bytes of the buffer.
-use Rattle.std.specs.Prelude.{◌≡◌, refl, Bool, true, false, List, ◌++◌, ℕ, ◌≤◌, leb, length, take, drop}
-use Rattle.std.proofs.Common.{sym, ◌∙◌, ap, subst, arith, leb-true, length-append, length-take-le}
+use Rattle.std.specs.Prelude.{◌≡◌, Bool, true, false, List, ◌++◌, ℕ, ◌≤◌, leb, length, take, drop}
+use Rattle.std.proofs.Common.{sym, ◌∙◌, ap, arith, length-append, length-take-le}
 use Rattle.names.specs.If.{if}
 use Rattle.writer.specs.Written.{too_long}
 use Rattle.report.specs.declared.Reported.{Reported}

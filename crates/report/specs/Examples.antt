@@ -1,5 +1,5 @@
 -- 01's own examples of the output, computed: the layer and prj pair, and `server 4 1`.
-use Rattle.std.specs.Prelude.{◌≡◌, refl, List, [], ◌∷◌, ℕ, zero, suc}
+use Rattle.std.specs.Prelude.{refl, [], ◌∷◌}
 use Prim.Native.String.{String}
 use Rattle.std.proofs.Common.{arith}
 use Rattle.names.specs.Names.{name, name_text}
@@ -9,7 +9,7 @@ use Rattle.tokens.specs.Lines.{head, line}
 use Rattle.aut.specs.Adding.{insert, has, add, check}
 use Rattle.aut.specs.File.{file, lines, marked_finished}
 use Rattle.stands.specs.Stands.{step, alphabet, ascending, put, nth, cause, possible, moved, message, rollback, from, among, within}
-use Rattle.stands.specs.Judgement.{Judgement, compliant, stuck, Judged}
+use Rattle.stands.specs.Judgement.{stuck}
 use Rattle.stands.specs.Computing.{judge, judge_ok, full, cause_of, equal, client_code, server_code}
 use Rattle.stands.specs.Cases.{bytes}
 use Rattle.runs.specs.System as runs

@@ -14,7 +14,7 @@ use Rattle.stands.specs.Stands as rules
 use Rattle.stands.specs.Judgement.{compliant, Judged}
 use Rattle.compliance.specs.Labels.{few, labelled}
 use Rattle.verdict.specs.Answer.{BothSound}
-use Rattle.history.specs.Calls.{Call, message, rollback, Calls, opening}
+use Rattle.history.specs.Calls.{Call, message, rollback, Calls}
 use Rattle.history.specs.Demand.{Seen, ClientPoint, ServerPoint, Demand}
 use Rattle.history.specs.Determined.{determined}
 use Rattle.history.specs.Played.{has, session}

@@ -3,7 +3,6 @@ use Rattle.std.specs.Prelude.{◌≡◌, false, List, ◌⊎◌, ℕ}
 use Rattle.std.proofs.Common.{sym, ◌∙◌, ap, inl, inr, arith}
 use Rattle.behaviour.specs.declared.Behaviour.{Behaviour}
 use Rattle.behaviour.specs.Sound.{sound}
-use Rattle.stands.specs.Judgement.{compliant, stuck, Judged}
 use Rattle.compliance.specs.OneJudgement.{unlike}
 use Rattle.verdict.specs.Answer.{BothSound}
 use Rattle.session.specs.declared.Session.{Session}

@@ -1,9 +1,8 @@
 -- The two kinds of line. Any number of spaces may stand before each token but a line's first.
 use Rattle.std.specs.Prelude.{List, [], ◌∷◌, ℕ}
-use Rattle.tokens.specs.declared.Label.{Label}
 use Rattle.tokens.specs.declared.Line.{Line}
 use Rattle.tokens.specs.declared.Head.{Head}
-use Rattle.tokens.specs.Parse.{Got, got, off, Nothing, nothing, and_then, ◌>>=◌, ◌>>◌}
+use Rattle.tokens.specs.Parse.{Got, got, Nothing, ◌>>=◌, ◌>>◌}
 use Rattle.tokens.specs.Tokens.{spaces, byte, number, word, labelled}
 
 abbrev pub spaced : {A : Type 0} → (List ℕ → Got A) → List ℕ → Got A

@@ -1,10 +1,10 @@
 -- The tokens of a description file, over the bytes that are left.
-use Rattle.std.specs.Prelude.{List, [], ◌∷◌, Bool, true, false, ◌&&◌, ◌||◌, ℕ, zero, suc, ◌+◌, ◌*◌, ◌-◌, leb, eqb}
+use Rattle.std.specs.Prelude.{List, [], ◌∷◌, Bool, ◌&&◌, ℕ, zero, suc, ◌+◌, ◌*◌, ◌-◌, leb, eqb}
 use Rattle.names.specs.If.{if}
 use Rattle.names.specs.Names.{name_number}
 use Rattle.tokens.specs.declared.Label.{Label}
 use Rattle.tokens.specs.declared.Label.TheVariants.{Mark, Take, Send, Other}
-use Rattle.tokens.specs.Parse.{Got, got, off, Nothing, nothing, and_then, ◌>>=◌, ◌>>◌}
+use Rattle.tokens.specs.Parse.{Got, got, off, Nothing, nothing, ◌>>=◌, ◌>>◌}
 
 -- any number of spaces, passed over
 unfoldable pub spaces : List ℕ → List ℕ

@@ -13,8 +13,7 @@ returns-then-is_marked_finished c =
 
 pub loop-i-preserved : goal.loop-i-preserved
 loop-i-preserved c =
-    let l = c.loop-i in
-    (
+    let l = c.loop-i in (
       l.invariant.0
           ∙ marked_more l.i c.args.marks c.args.signs l.i (omega arith) (omega arith) (sym c.is_marked_finished.ensures ∙ c.if-is_marked_finished.false),
       l.invariant.1,

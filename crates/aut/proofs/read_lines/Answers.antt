@@ -16,8 +16,7 @@ taken c = sym c.read_line.ensures.0 ∙ ap (lined_of c.args.s.now) c.in-Is.is
 
 pub loop-t-init : goal.loop-t-init
 loop-t-init c =
-    let q = c.nothing-b.ensures in
-    (
+    let q = c.nothing-b.ensures in (
       ap (λ (x : Behaviour). lines c.args.count 2 x (drop c.args.at c.args.s.now)) (sym q),
       omega (arith, ap (λ (x : Behaviour). x.states) q),
       omega (arith, ap (λ (x : Behaviour). x.count) q),

@@ -1,5 +1,5 @@
 -- `tokens::read_head` meets its contract. Each part that is read leaves the rest of the line to be read from where it ends.
-use Rattle.std.proofs.Common.{◌≡◌, sym, ap, subst, ◌∙◌, ℕ, List, [], ◌∷◌, drop}
+use Rattle.std.proofs.Common.{◌≡◌, sym, ap, subst, ◌∙◌, ℕ, List, [], ◌∷◌}
 use Rattle.tokens.specs.Parse.{got, nothing}
 use Rattle.tokens.specs.Seen.{step_of, StepIn, num_of}
 use Rattle.tokens.specs.Tokens.{word, number}

@@ -1,8 +1,7 @@
 -- `tokens::read_label` meets its contract.
-use Rattle.std.proofs.Common.{drop, ◌≡◌, sym, ap, ◌∙◌}
+use Rattle.std.proofs.Common.{sym, ap, ◌∙◌}
 use Rattle.tokens.specs.declared.Step.{Step}
-use Rattle.tokens.specs.Parse.{got, nothing}
-use Rattle.tokens.specs.Tokens.{marked, label}
+use Rattle.tokens.specs.Tokens.{marked}
 use Rattle.tokens.specs.Seen.{step_of}
 use Rattle.tokens.proofs.Labels.{label-none, take-label, send_label, no_name, a-name, label-word, marked-end, marked_more}
 use Rattle.tokens.proofs.read_label.Goals as goal

@@ -1,10 +1,9 @@
 -- `tokens::read_quoted` meets its contract.
-use Rattle.std.proofs.Common.{◌≡◌, sym, ap, ◌∙◌, ◌+◌, arith, subst, drop}
+use Rattle.std.proofs.Common.{sym, ap, ◌∙◌, ◌+◌, arith, subst, drop}
 use Rattle.tokens.specs.declared.Label.{Label}
-use Rattle.tokens.specs.declared.Step.TheVariants as step
-use Rattle.tokens.specs.Parse.{got, nothing}
-use Rattle.tokens.specs.Seen.{step_of, closed_of, Within, part}
-use Rattle.tokens.specs.Tokens.{quoted, byte, text}
+use Rattle.tokens.specs.Parse.{got}
+use Rattle.tokens.specs.Seen.{step_of, closed_of, Within}
+use Rattle.tokens.specs.Tokens.{quoted}
 use Rattle.tokens.proofs.Texts.{some-none, some-yes}
 use Rattle.tokens.proofs.read_quoted.Goals as goal
 
