@@ -1,4 +1,4 @@
--- The definitions `has` and `markedFinished` at a place.
+-- The definitions `has` and `marked_finished` at a place.
 use mathlib.Core.Path.{◌≡◌}
 use mathlib.Core.List.{List}
 use mathlib.Core.Bool.{true, false, ◌&&◌}

@@ -1,4 +1,4 @@
--- The definitions `isNameByte` and `name` at a position, and a name's bound.
+-- The definitions `is_name_byte` and `name` at a position, and a name's bound.
 use mathlib.Core.Path.{◌≡◌}
 use mathlib.Core.List.{List}
 use mathlib.Core.Bool.{true, false, or-false, and-false}

@@ -1,4 +1,4 @@
--- Demands 1, 2 and 3, each as one theorem over the definitions that the functions' statements cite.
+-- Demands 1, 2 and 3, over the definitions that the functions' statements cite; each has one theorem, 1 and 2 in proofs/Promises.antt.
 -- A name in brackets is the function whose statement a line begins from.
 use Rattle.std.specs.Prelude.{◌≡◌, List, ◌++◌, ◌↔◌, ℕ, ◌<◌, ◌≤◌, length, take, drop}
 use Rattle.std.proofs.Math.Option.{none}

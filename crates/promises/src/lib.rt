@@ -1,2 +1,2 @@
-// What is promised, in one place: demands 1, 2 and 3 as theorems over the crates' own definitions (specs/Promises.antt). No code.
+// What is promised, in one place: demands 1, 2 and 3, with a theorem each, over the crates' own definitions (specs/Promises.antt). No code.
 #![tactic(auto)]

@@ -26,11 +26,11 @@ abbrev Home : ClientPoint → ℕ → Type 0
 Home client.Nowhere h = Unit {0}
 Home (client.To y) h = y.0 ≡ h
 
-nth_get_d : (l : List ℕ) (k n : ℕ) → nth l k ≡ some n → get_or l k 0 ≡ n
+nth-get_or : (l : List ℕ) (k n : ℕ) → nth l k ≡ some n → get_or l k 0 ≡ n
 unfolding nth
-nth_get_d [] k n e = absurd (let z : ◌≡◌ {A = ℕ} 0 1 = cc in omega arith)
-nth_get_d (m ∷ l) zero n e = cc
-nth_get_d (m ∷ l) (suc k) n e = nth_get_d l k n e
+nth-get_or [] k n e = absurd (let z : ◌≡◌ {A = ℕ} 0 1 = cc in omega arith)
+nth-get_or (m ∷ l) zero n e = cc
+nth-get_or (m ∷ l) (suc k) n e = nth-get_or l k n e
 
 module _ (c s : Behaviour) where
   abbrev name : ℕ → ℕ
@@ -51,7 +51,7 @@ module _ (c s : Behaviour) where
         m = ne_eqb b 255 (λ z. omega arith)
 
         d : name b ≡ n
-        d = nth_get_d (alphabet c s) b n f
+        d = nth-get_or (alphabet c s) b n f
 
         kept : (t : Bool) → Home (if t (client.To p.client) p.clientpoint) (if t p.client.0 home)
         kept true = refl
