@@ -9,9 +9,10 @@ An answer that only says 'search rules' goes, since the check tries that itself.
 import json
 import os
 import re
+import shutil
 import sys
 
-KIT = os.environ.get("RATTLE_KIT", "/opt/rattle")
+KIT = os.path.dirname(os.path.dirname(os.path.realpath(shutil.which("rt") or "rt")))
 WORD = r'[^\s(){}.;,@"«»]+'
 PATH = re.compile(rf"(?<![^\s(){{}};,])({WORD})((?:\.{WORD})+)")
 LET = re.compile(rf"let ({WORD}) = ({WORD}(?:\.{WORD})*) in\s*")
