@@ -2,13 +2,12 @@
 use Rattle.std.specs.Prelude.{◌≡◌, ℕ}
 use Rattle.std.proofs.Common.{ap}
 use mathlib.Core.List.{List, Permᴰ}
-use Rattle.aut.specs.declared.Read.{Read}
-use Rattle.aut.specs.File.{file}
+use Rattle.aut.specs.File.{value_of, file}
 use Rattle.aut.specs.Contents.{Accepted, file-short}
 use Rattle.aut.specs.AnyOrder.{any_order}
 use Rattle.aut.proofs.Contents.{contents_of}
 
 -- two accepted files with the same first line, whose lines are the same in any order, give the same value
 pub same-value : (s t : List ℕ) (a : Accepted (file s)) (b : Accepted (file t)) → (contents_of s a).first ≡ (contents_of t b).first
-    → Permᴰ (contents_of s a).others (contents_of t b).others → (file t).value ≡ (file s).value
-same-value s t a b e p = ap (λ (r : Read). r.value) (any_order s t (contents_of s a) (contents_of t b) e p (file-short t b) a)
+    → Permᴰ (contents_of s a).others (contents_of t b).others → value_of (file t) ≡ value_of (file s)
+same-value s t a b e p = ap value_of (any_order s t (contents_of s a) (contents_of t b) e p (file-short t b) a)

@@ -1,48 +1,57 @@
--- The definition `lines` at a position, and what a line that meets no refusal keeps.
-use mathlib.Core.Path.{◌≡◌, refl}
-use mathlib.Core.List.{List}
-use Prim.Native.Nat.{ℕ, zero, suc, ◌+◌, ◌-◌, ◌<◌, ◌≤◌}
-use native.Mathlib.Numerals.{sub-one}
-use native.Mathlib.Omega.{arith}
-use borrow.Author.Tests.{eq-eqb, ne_eqb}
-use lib.ListN.{length, drop, drop_of_length-le}
+-- The definition `lines`, by what the code finds at each line, and what a line that meets no refusal keeps.
+use Rattle.std.proofs.Common.{◌≡◌, refl, Ok, Err, List, [], ◌∷◌, ℕ, zero, suc, ◌+◌, ◌-◌, ◌<◌, ◌≤◌, length, arith}
+use Rattle.std.proofs.Math.Numerals.{sub-one}
 use Rattle.tokens.specs.Parse.{got, off}
 use Rattle.tokens.specs.Lines.{line}
 use Rattle.tokens.specs.declared.Label.{Label}
 use Rattle.tokens.specs.declared.Label.TheVariants.{Mark, Take, Send, Other}
 use Rattle.tokens.specs.declared.Line.{Line}
+use Rattle.behaviour.specs.declared.Reason.{Reason}
+use Rattle.behaviour.specs.declared.Reason.TheVariants as reason
 use Rattle.behaviour.specs.declared.Behaviour.{Behaviour}
 use Rattle.aut.specs.Adding.{add, add_label, check}
 use Rattle.aut.specs.File.{refuse, finish, lines}
-use Rattle.names.specs.Places.{here}
 
-module _ (p : ℕ) (b : Behaviour) (s : List ℕ) where
-  pub lines-short : (t : ℕ) → 0 < t → line s ≡ off → refuse 5 p ≡ lines t p b s
+module _ (t p : ℕ) (b : Behaviour) (s : List ℕ) where
+  pub lines-short : 0 < t → line s ≡ off → lines t p b s ≡ refuse reason.LineShape p
   unfolding lines
-  lines-short zero h e = absurd (omega arith)
-  lines-short (suc t) h e = rw e
+  lines-short h e = go t h
+    where
+      go : (u : ℕ) → 0 < u → lines u p b s ≡ refuse reason.LineShape p
+      go zero k = absurd (omega arith)
+      go (suc u) k = rw e
 
-  pub lines-bad : (l : Line) (r : List ℕ) (k t : ℕ) → 0 < t → line s ≡ got l r → k ≡ check b l → (k ≡ 0 → ⊥) → refuse k p ≡ lines t p b s
+  pub lines-bad : (l : Line) (r : List ℕ) (x : Reason) → 0 < t → line s ≡ got l r → check b l ≡ Err x → lines t p b s ≡ refuse x p
   unfolding lines
-  lines-bad l r k zero h e f n = absurd (omega arith)
-  lines-bad l r k (suc t) h e f n = rw (e, ← f, ne_eqb k 0 n)
+  lines-bad l r x h e n = go t h
+    where
+      go : (u : ℕ) → 0 < u → lines u p b s ≡ refuse x p
+      go zero k = absurd (omega arith)
+      go (suc u) k = rw (e, n)
 
-  pub lines_more : (l : Line) (r : List ℕ) (k : ℕ) (d : Behaviour) (t : ℕ) → 0 < t → line s ≡ got l r → k ≡ check b l → k ≡ 0 → d ≡ add b l
-      → lines t p b s ≡ lines (t - 1) (p + 1) d r
+  pub lines_more : (l : Line) (r : List ℕ) → 0 < t → line s ≡ got l r → check b l ≡ Ok tt → lines t p b s ≡ lines (t - 1) (p + 1) (add b l) r
   unfolding lines
-  lines_more l r k d zero h e f n a = absurd (omega arith)
-  lines_more l r k d (suc t) h e f n a = rw (e, ← f, eq-eqb k 0 n, sub-one, ← a)
+  lines_more l r h e n = go t h
+    where
+      go : (u : ℕ) → 0 < u → lines u p b s ≡ lines (u - 1) (p + 1) (add b l) r
+      go zero k = absurd (omega arith)
+      go (suc u) k = rw (e, n, sub-one)
 
-module _ (p : ℕ) (b : Behaviour) (s : List ℕ) (i : ℕ) where
-  pub lines_extra : (t : ℕ) → t ≤ 0 → i < length s → refuse 5 p ≡ lines t p b (drop i s)
+  pub lines_extra : t ≡ 0 → 0 < length s → lines t p b s ≡ refuse reason.LineShape p
   unfolding lines
-  lines_extra zero h l = rw (here 0 s i l)
-  lines_extra (suc t) h l = absurd (omega arith)
+  lines_extra e h = rw e (go s h)
+    where
+      go : (s : List ℕ) → 0 < length s → lines 0 p b s ≡ refuse reason.LineShape p
+      go [] k = absurd (omega arith)
+      go (c ∷ s) k = refl
 
-  pub lines-done : (t : ℕ) → t ≤ 0 → length s ≤ i → finish b ≡ lines t p b (drop i s)
+  pub lines-done : t ≡ 0 → length s ≡ 0 → lines t p b s ≡ finish b
   unfolding lines
-  lines-done zero h l = rw (drop_of_length-le s l)
-  lines-done (suc t) h l = absurd (omega arith)
+  lines-done e h = rw e (go s h)
+    where
+      go : (s : List ℕ) → length s ≡ 0 → lines 0 p b s ≡ finish b
+      go [] k = refl
+      go (c ∷ s) k = absurd (omega arith)
 
 label-keeps : (b : Behaviour) (f g : ℕ) (l : Label) → ((add_label b f g l).states ≡ b.states) × ((add_label b f g l).count ≤ b.count + 1)
 label-keeps b f g Mark = (refl, omega arith)

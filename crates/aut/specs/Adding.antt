@@ -1,11 +1,13 @@
 -- What a line adds to a behaviour value, and which refusal it meets.
-use Rattle.std.specs.Prelude.{List, [], ◌∷◌, ◌++◌, Bool, true, false, ◌&&◌, ℕ, ◌+◌, ltb, eqb, get_or, set, drop, replicate}
+use Rattle.std.specs.Prelude.{Result, Ok, Err, ⊤, List, [], ◌∷◌, ◌++◌, Bool, true, false, ◌&&◌, ℕ, ◌+◌, ltb, eqb, get_or, set, drop, replicate}
 use Rattle.names.specs.If.{if}
 use Rattle.tokens.specs.declared.Label.{Label}
 use Rattle.tokens.specs.declared.Label.TheVariants.{Mark, Take, Send, Other}
 use Rattle.tokens.specs.declared.Line.{Line}
 use Rattle.behaviour.specs.declared.Message.{Message}
 use Rattle.behaviour.specs.declared.Behaviour.{Behaviour}
+use Rattle.behaviour.specs.declared.Reason.{Reason}
+use Rattle.behaviour.specs.declared.Reason.TheVariants as reason
 use Rattle.behaviour.specs.Limits.{most_states, most_lines}
 use Rattle.behaviour.specs.Pick.{is, unused}
 use Rattle.behaviour.specs.Sound.{messages, before}
@@ -48,17 +50,17 @@ add_label b f g Other = b
 unfoldable pub add : Behaviour → Line → Behaviour
 add b l = add_label b l.from l.to l.label
 
--- 9 "taking and sending at one state", 10 "same name again at that state", or 0
-abbrev pub check_message : Behaviour → ℕ → ℕ → ℕ → ℕ
-check_message b f other n = if (eqb (get_or b.signs f 0) other) 9 (if (has f n (messages b)) 10 0)
+-- "taking and sending at one state", "same name again at that state", or neither
+abbrev pub check_message : Behaviour → ℕ → ℕ → ℕ → Result ⊤ Reason
+check_message b f other n = if (eqb (get_or b.signs f 0) other) (Err reason.TakingAndSending) (if (has f n (messages b)) (Err reason.SameNameAgain) (Ok tt))
 
--- 7 "label not one of the three", 8 "mark from one state to another, or a second mark"
-abbrev pub check_label : Behaviour → ℕ → ℕ → Label → ℕ
-check_label b f g Other = 7
-check_label b f g Mark = if (eqb f g) (if (eqb (get_or b.marks f 0) 0) 0 8) 8
+-- "label not one of the three", "mark from one state to another, or a second mark"
+abbrev pub check_label : Behaviour → ℕ → ℕ → Label → Result ⊤ Reason
+check_label b f g Other = Err reason.OtherLabel
+check_label b f g Mark = if (eqb f g) (if (eqb (get_or b.marks f 0) 0) (Ok tt) (Err reason.MisplacedMark)) (Err reason.MisplacedMark)
 check_label b f g (Take n) = check_message b f 2 n
 check_label b f g (Send n) = check_message b f 1 n
 
--- "on each line 5 to 10 in order", from 6 "state number not below S" on; or 0
-unfoldable pub check : Behaviour → Line → ℕ
-check b l = if (ltb l.from b.states && ltb l.to b.states) (check_label b l.from l.to l.label) 6
+-- "on each line 5 to 10 in order", from "state number not below S" on
+unfoldable pub check : Behaviour → Line → Result ⊤ Reason
+check b l = if (ltb l.from b.states && ltb l.to b.states) (check_label b l.from l.to l.label) (Err reason.StateTooHigh)

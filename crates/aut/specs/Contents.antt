@@ -1,24 +1,29 @@
 -- What stands in a file: its first line and its lines, each as it is read. The refusals 5 to 11 of a file are those of its lines.
-use Rattle.std.specs.Prelude.{◌≡◌, Bool, true, false, ◌&&◌, ℕ, zero, suc, ◌+◌, ◌≤◌, eqb, leb, length}
+use Rattle.std.specs.Prelude.{◌≡◌, IsOk, Result, Ok, Err, ⊤, Bool, true, false, ◌&&◌, ℕ, zero, suc, ◌+◌, ◌≤◌, eqb, leb, length}
 use Rattle.std.proofs.Math.Path.{refl}
-use Rattle.std.proofs.Common.{ap, ◌∙◌, arith, eqb-true, eq-eqb, le-leb, leb-true}
+use Rattle.std.proofs.Common.{ap, ◌∙◌, eqb-true, eq-eqb, le-leb, leb-true}
 use mathlib.Core.List.{List, [], ◌∷◌}
-use Rattle.std.proofs.lemmas.Bool.{eqb-false}
+use Rattle.std.proofs.lemmas.Bool.{false≢true}
 use Rattle.names.specs.If.{if}
 use Rattle.tokens.specs.Parse.{Got, got, off, and_then, ◌>>=◌}
 use Rattle.tokens.specs.OneAnswer.{off-not-got}
 use Rattle.tokens.specs.Lines.{line, head}
 use Rattle.tokens.specs.declared.Line.{Line}
 use Rattle.tokens.specs.declared.Head.{Head}
+use Rattle.behaviour.specs.declared.Reason.TheVariants as reason
+use Rattle.behaviour.specs.declared.Reason.{Reason}
 use Rattle.behaviour.specs.declared.Behaviour.{Behaviour}
 use Rattle.behaviour.specs.Limits.{most_states, most_lines, most_bytes}
-use Rattle.aut.specs.declared.Read.{Read}
 use Rattle.aut.specs.Adding.{bare, add, check}
-use Rattle.aut.specs.File.{refuse, finish, next, lines, begin, file}
+use Rattle.aut.specs.File.{Read, value_of, accept, refuse, if_passed, finish, next, lines, begin, file}
 
 -- the file is taken
 abbrev pub Accepted : Read → Type 0
-Accepted r = r.refusal.number ≡ 0
+Accepted r = IsOk r
+
+pub accepted-value : (r : Read) → Accepted r → r ≡ accept (value_of r)
+accepted-value (Ok b) a = refl
+accepted-value (Err f) a = absurd (false≢true a)
 
 -- t lines one after the other, whatever they say
 unfoldable pub lines_read : ℕ → List ℕ → Got (List Line)
@@ -39,12 +44,12 @@ pub record Contents (s : List ℕ) : Type 0 where
 -- "line by line, on each line 5 to 10 in order .. then 11", over lines that are read
 unfoldable pub judged : ℕ → Behaviour → List Line → Read
 judged p b [] = finish b
-judged p b (l ∷ ls) = if (eqb (check b l) 0) (judged (p + 1) (add b l) ls) (refuse (check b l) p)
+judged p b (l ∷ ls) = if_passed p (check b l) (judged (p + 1) (add b l) ls)
 
 -- no line is refused
 abbrev pub AllTaken : Behaviour → List Line → Type 0
 AllTaken b [] = Unit {0}
-AllTaken b (l ∷ ls) = (check b l ≡ 0) × AllTaken (add b l) ls
+AllTaken b (l ∷ ls) = (check b l ≡ Ok tt) × AllTaken (add b l) ls
 
 -- the value with all the lines in it
 unfoldable pub add_all : Behaviour → List Line → Behaviour
@@ -60,7 +65,7 @@ module _ (p : ℕ) (b : Behaviour) (t : ℕ) (again : (c : Behaviour) (r : List 
   judged-step (got l r) ls e = go (lines_read t r) ls refl e
     where
       go : (h : Got (List Line)) (ks : List Line) → lines_read t r ≡ h → and_then h (λ ms. got (l ∷ ms)) ≡ got ks []
-          → if (eqb (check b l) 0) (lines t (p + 1) (add b l) r) (refuse (check b l) p) ≡ judged p b ks
+          → if_passed p (check b l) (lines t (p + 1) (add b l) r) ≡ judged p b ks
       go off ks f i = absurd (off-not-got i)
       go (got ms u) ks f i =
           let x : ks ≡ l ∷ ms = cc in
@@ -79,17 +84,17 @@ lines-judged (suc t) p b s ls e = judged-step p b t (λ c r ms h. lines-judged t
 pub taken-judged : (p : ℕ) (b : Behaviour) (ls : List Line) → AllTaken b ls → judged p b ls ≡ finish (add_all b ls)
 unfolding judged add_all
 taken-judged p b [] a = refl
-taken-judged p b (l ∷ ls) a = rw (eq-eqb (check b l) 0 a.0) (taken-judged (p + 1) (add b l) ls a.1)
+taken-judged p b (l ∷ ls) a = rw a.0 (taken-judged (p + 1) (add b l) ls a.1)
 
 pub judged-taken : (p : ℕ) (b : Behaviour) (ls : List Line) → Accepted (judged p b ls) → AllTaken b ls
 unfolding judged
 judged-taken p b [] a = tt
-judged-taken p b (l ∷ ls) a = go (eqb (check b l) 0) refl (λ h. judged-taken (p + 1) (add b l) ls h) a
+judged-taken p b (l ∷ ls) a = go (check b l) refl (λ h. judged-taken (p + 1) (add b l) ls h) a
   where
-    go : (t : Bool) → eqb (check b l) 0 ≡ t → (Accepted (judged (p + 1) (add b l) ls) → AllTaken (add b l) ls)
-        → Accepted (if t (judged (p + 1) (add b l) ls) (refuse (check b l) p)) → (check b l ≡ 0) × AllTaken (add b l) ls
-    go true e i h = (eqb-true (check b l) 0 e, i h)
-    go false e i h = absurd (eqb-false (check b l) 0 e h)
+    go : (k : Result ⊤ Reason) → check b l ≡ k → (Accepted (judged (p + 1) (add b l) ls) → AllTaken (add b l) ls)
+        → Accepted (if_passed p k (judged (p + 1) (add b l) ls)) → (check b l ≡ Ok tt) × AllTaken (add b l) ls
+    go (Ok _) e i h = (e, i h)
+    go (Err k) e i h = absurd (false≢true h)
 
 -- the first line of an accepted file meets none of 2 to 4
 pub record Ranges (h : Head) : Type 0 where
@@ -102,13 +107,13 @@ pub begin_ranges : (h : Head) (r : List ℕ) → Accepted (begin (got h r)) → 
 begin_ranges h r a = go (eqb h.start 0) (leb 1 h.states) (leb h.states most_states) (leb h.lines most_lines) refl refl refl refl a
   where
     go : (s t u v : Bool) → eqb h.start 0 ≡ s → leb 1 h.states ≡ t → leb h.states most_states ≡ u → leb h.lines most_lines ≡ v
-        → Accepted (if s (if (t && u && v) (lines h.lines 2 (bare h.states) r) (refuse 4 1)) (refuse 3 1)) → Ranges h
+        → Accepted (if s (if (t && u && v) (lines h.lines 2 (bare h.states) r) (refuse reason.SizeOutsideRange 1)) (refuse reason.StartNotZero 1)) → Ranges h
     go true true true true p q x y z =
         record { start-zero = eqb-true h.start 0 p; some_states = leb-true 1 h.states q; few_states = leb-true h.states most_states x; few-lines = leb-true h.lines most_lines y }
-    go true true true false p q x y z = absurd (omega arith)
-    go true true false v p q x y z = absurd (omega arith)
-    go true false u v p q x y z = absurd (omega arith)
-    go false t u v p q x y z = absurd (omega arith)
+    go true true true false p q x y z = absurd (false≢true z)
+    go true true false v p q x y z = absurd (false≢true z)
+    go true false u v p q x y z = absurd (false≢true z)
+    go false t u v p q x y z = absurd (false≢true z)
 
 pub begin-lines : (h : Head) (r : List ℕ) → Ranges h → begin (got h r) ≡ lines h.lines 2 (bare h.states) r
 begin-lines h r a =
@@ -118,9 +123,9 @@ pub file-short : (s : List ℕ) → Accepted (file s) → length s ≤ most_byte
 unfolding file
 file-short s a = go (leb (length s) most_bytes) refl a
   where
-    go : (t : Bool) → leb (length s) most_bytes ≡ t → Accepted (if t (begin (head s)) (refuse 1 0)) → length s ≤ most_bytes
+    go : (t : Bool) → leb (length s) most_bytes ≡ t → Accepted (if t (begin (head s)) (refuse reason.FileTooLong 0)) → length s ≤ most_bytes
     go true e h = leb-true (length s) most_bytes e
-    go false e h = absurd (omega arith)
+    go false e h = absurd (false≢true h)
 
 module _ (s : List ℕ) (c : Contents s) where
   opened : length s ≤ most_bytes → file s ≡ begin (got c.first c.rest)

@@ -1,5 +1,5 @@
 -- Two lines, one after the other, that meet no refusal: in the other order they meet none either, and they add the same.
-use Rattle.std.specs.Prelude.{◌≡◌, refl, List, ◌++◌, Bool, true, false, not, ℕ, suc, ◌+◌, ◌<◌, ◌≤◌, eqb, length, get_or, set, take, drop}
+use Rattle.std.specs.Prelude.{◌≡◌, refl, Ok, List, ◌++◌, Bool, true, false, not, ℕ, suc, ◌+◌, ◌<◌, ◌≤◌, eqb, length, get_or, set, take, drop}
 use Rattle.std.proofs.Common.{sym, ap, ◌∙◌, arith, eqb-true, eq-eqb, ne_eqb, length-append, length-drop, length-set, take_at, drop-drop, length-take-le, get_or-set_same, get_or-set_other}
 use Rattle.std.proofs.lemmas.Bool.{false≢true, eqb-false}
 use Rattle.std.proofs.Math.Seq.{drop-append-add}
@@ -42,7 +42,7 @@ module _ (m : Message) (c : ℕ) (l : List Message) (h : c < length l) where
   put_all = omega (arith, length-append (insert m (take c l)) (drop (c + 1) l), put-length, length-drop (c + 1) l)
 
 -- a line that meets no refusal leaves room for one less
-open_kind : (k : ℕ) (b : Behaviour) (f g : ℕ) {x : Label} → Kind x → Open (suc k) b → check b (record { from = f; label = x; to = g }) ≡ 0
+open_kind : (k : ℕ) (b : Behaviour) (f g : ℕ) {x : Label} → Kind x → Open (suc k) b → check b (record { from = f; label = x; to = g }) ≡ Ok tt
     → Open k (add b (record { from = f; label = x; to = g }))
 open_kind k b f g mark o e =
     rw (mark_adds b f g)
@@ -67,7 +67,7 @@ open_kind k b f g (message t n) o e =
     })
 open_kind k b f g other o e = absurd (other-refused b f g e)
 
-pub open_add : (k : ℕ) (b : Behaviour) (l : Line) → Open (suc k) b → check b l ≡ 0 → Open k (add b l)
+pub open_add : (k : ℕ) (b : Behaviour) (l : Line) → Open (suc k) b → check b l ≡ Ok tt → Open k (add b l)
 open_add k b l o e = open_kind k b l.from l.to (kind l.label) o e
 
 eqb-sym : (a b : ℕ) → eqb a b ≡ eqb b a
@@ -101,8 +101,8 @@ signs-differ false e = omega arith
 
 -- l and then m, at b, in the other order
 pub record Swapped (b : Behaviour) (l m : Line) : Type 0 where
-  pub first : check b m ≡ 0
-  pub then : check (add b m) l ≡ 0
+  pub first : check b m ≡ Ok tt
+  pub then : check (add b m) l ≡ Ok tt
   pub same : add (add b m) l ≡ add (add b l) m
 
 -- two marks
@@ -223,8 +223,8 @@ module _ (b : Behaviour) (t u : Bool) (n f g m k j : ℕ) (o : Open 2 b)
   }
 
 by_kinds : (b : Behaviour) (f g k j : ℕ) {x y : Label} → Kind x → Kind y → Open 2 b
-    → check b (record { from = f; label = x; to = g }) ≡ 0
-    → check (add b (record { from = f; label = x; to = g })) (record { from = k; label = y; to = j }) ≡ 0
+    → check b (record { from = f; label = x; to = g }) ≡ Ok tt
+    → check (add b (record { from = f; label = x; to = g })) (record { from = k; label = y; to = j }) ≡ Ok tt
     → Swapped b (record { from = f; label = x; to = g }) (record { from = k; label = y; to = j })
 by_kinds b f g k j mark mark o p q = mark-mark b f g k j o (mark-taken b f g p) (mark-taken (add_mark b f) k j (rw (mark_adds b f g) at q))
 by_kinds b f g k j mark (message u m) o p q = mark-said b u m f g k j (mark-taken b f g p) (said-taken (add_mark b f) m k j u (rw (mark_adds b f g) at q))
@@ -236,5 +236,5 @@ by_kinds b f g k j other y o p q = absurd (other-refused b f g p)
 by_kinds b f g k j {x} mark other o p q = absurd (other-refused (add b (mark_line f g)) k j q)
 by_kinds b f g k j (message t n) other o p q = absurd (other-refused (add b (said_line t n f g)) k j q)
 
-pub swapped : (b : Behaviour) (l m : Line) → Open 2 b → check b l ≡ 0 → check (add b l) m ≡ 0 → Swapped b l m
+pub swapped : (b : Behaviour) (l m : Line) → Open 2 b → check b l ≡ Ok tt → check (add b l) m ≡ Ok tt → Swapped b l m
 swapped b l m o p q = by_kinds b l.from l.to m.from m.to (kind l.label) (kind m.label) o p q

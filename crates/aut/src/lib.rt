@@ -1,185 +1,115 @@
 // Reading a description file: 01's "The description file", with its refusals 1 to 11.
 #![tactic(auto)]
 
-ghost use Rattle.std.specs.Prelude.{◌≡◌, ◌++◌, ◌&&◌, eqb, ltb, ◌+◌, ◌<◌, ◌≤◌, drop, take};
+ghost use Rattle.std.specs.Prelude.{◌≡◌, ◌++◌, ◌+◌, ◌<◌, ◌≤◌, drop, take, MatchOption};
 ghost use Rattle.behaviour.specs.Limits.{most_states, most_lines};
-ghost use Rattle.aut.specs.Adding.{insert, has, bare, add, check, add_mark, add_message, check_message, check_label};
-ghost use Rattle.aut.specs.File.{refuse, marked_finished, finish, lines, file};
+ghost use Rattle.aut.specs.Adding.{insert, has, bare, add, check, add_message, check_message, check_label};
+ghost use Rattle.aut.specs.File.{value_of, marked_finished, finish, lines, file};
 
-use behaviour::{BYTES, Behaviour, LINES, Message, Messages, PerState, Refusal, STATES};
-use tokens::{Headed, Label, Line, Lined};
-
-// What reading gives. A refusal of number 0: the file is taken, and the value is its behaviour.
-#[derive(Clone, Copy)]
-pub struct Read {
-    pub refusal: Refusal,
-    pub value: Behaviour,
-}
+use behaviour::{
+    BYTES, Behaviour, LINES, Message, Messages, PerState, Reason, Refusal, STATES, UNUSED,
+};
+use tokens::{Label, Line};
 
 // `m` in its place among the first `n` of `a`. From place to place the later of two messages is carried on.
-fn inserted(a: Messages, n: usize, m: Message) -> Messages
+fn insert(a: &mut Messages, n: usize, m: Message)
     requires { n < most_lines }
-    ensures { result ≡ insert m (take n a) ++ drop (n + 1) a }
+    ensures { a.new ≡ insert m (take n a.old) ++ drop (n + 1) a.old }
 {
-    let mut out = a;
     let mut held = m;
-    let mut i = 0;
-    while i < n {
-        let x = out[i];
-        if behaviour::comes_before(held, x) {
-            out[i] = held;
-            held = x;
-            i += 1;
-        } else {
-            i += 1;
+    for place in &mut a[..n] {
+        let next = *place;
+        if behaviour::comes_before(held, next) {
+            *place = held;
+            held = next;
         }
     }
-    out[n] = held;
-    out
+    a[n] = held;
 }
 
-// A message `n` at the state `f` is among the first `count`.
-fn is_known(a: Messages, count: usize, f: u8, n: u64) -> bool
-    requires { count ≤ most_lines }
-    ensures { result ≡ has f n (take count a) }
+// A message `n` at the state `f` is among those of `a`.
+fn is_known(a: &[Message], f: u8, n: u64) -> bool
+    ensures { result ≡ has f n a.now }
 {
-    let mut i = 0;
-    while i < count {
-        let x = a[i];
-        if behaviour::is_at(x, f, n) {
-            return true;
-        }
-        i += 1;
-    }
-    false
+    a.iter().any(|&x| behaviour::is_at(x, f, n))
 }
 
-// 9 or 10 for a message `n` at the state `f`, whose messages would be against it with the sign `other`; or 0.
-fn check_message(b: Behaviour, f: usize, other: u8, n: u64) -> u8
-    requires { (f < most_states) × (b.count ≤ most_lines) }
-    ensures { result ≡ check_message b f other n }
+// For a message `n` at the state `f`, whose messages would be against it with the sign `other`.
+// Kept: casts, here and below, which are proved to fit; `try_from` would ask for an answer that never comes.
+// Kept: a sign and a mark, here and below, as its byte: any bytes may come from C as a value (see `Behaviour`).
+fn check_message(b: &Behaviour, f: usize, other: u8, n: u64) -> Result<(), Reason>
+    requires { f < most_states }
+    ensures { result ≡ check_message b.now f other n }
 {
     if b.signs[f] == other {
-        return 9;
+        return Err(Reason::TakingAndSending);
     }
-    let a = b.messages;
-    let count = b.count as usize;
-    let from = f as u8;
-    if is_known(a, count, from, n) {
-        return 10;
+    if is_known(b.used_messages(), f as u8, n) {
+        return Err(Reason::SameNameAgain);
     }
-    0
+    Ok(())
 }
 
-// 7 to 10 for a label on a line between states of the value, or 0.
-fn label_refusal(b: Behaviour, from: usize, to: usize, label: Label) -> u8
-    requires { (from < most_states) × (b.count ≤ most_lines) }
-    ensures { result ≡ check_label b from to label }
+// For a label on a line between states of the value.
+fn check_label(b: &Behaviour, from: usize, to: usize, label: Label) -> Result<(), Reason>
+    requires { from < most_states }
+    ensures { result ≡ check_label b.now from to label }
 {
     match label {
-        Label::Mark => {
-            if from != to {
-                return 8;
-            }
-            if b.marks[from] != 0 {
-                return 8;
-            }
-            0
-        }
+        Label::Mark if from == to && b.marks[from] == 0 => Ok(()),
+        Label::Mark => Err(Reason::MisplacedMark),
         Label::Take(n) => check_message(b, from, 2, n),
         Label::Send(n) => check_message(b, from, 1, n),
-        Label::Other => 7,
+        Label::Other => Err(Reason::OtherLabel),
     }
 }
 
-fn is_between(from: usize, to: usize, states: usize) -> bool
-    ensures { result ≡ (ltb from states && ltb to states) }
+// Is a line of the shape refused?
+#[tactic(auto, unfolding(crate::specs::Adding::check))]
+fn check(b: &Behaviour, l: Line) -> Result<(), Reason>
+    requires { b.now.states ≤ most_states }
+    ensures { result ≡ check b.now l }
 {
-    if states <= from {
-        return false;
+    let states = usize::from(b.states);
+    if l.from < states && l.to < states {
+        return check_label(b, l.from, l.to, l.label);
     }
-    to < states
+    Err(Reason::StateTooHigh)
 }
 
-// The refusal that a line of the shape meets, or 0.
-fn refusal_of(b: Behaviour, l: Line) -> u8
-    requires { (b.states ≤ most_states) × (b.count ≤ most_lines) }
-    ensures { result ≡ check b l }
+fn add_message(b: &mut Behaviour, g: u8, m: Message)
+    requires { (m.from < most_states) × (b.old.count < most_lines) }
+    ensures { b.new ≡ add_message b.old g m }
 {
-    let states = b.states as usize;
-    let from = l.from;
-    let to = l.to;
-    let label = l.label;
-    if is_between(from, to, states) {
-        return label_refusal(b, from, to, label);
-    }
-    6
-}
-
-fn with_mark(b: Behaviour, f: usize) -> Behaviour
-    requires { f < most_states }
-    ensures { result ≡ add_mark b f }
-{
-    let mut r = b;
-    r.marks[f] = 1;
-    r
-}
-
-fn with_message(b: Behaviour, g: u8, m: Message) -> Behaviour
-    requires { (m.from < most_states) × (b.count < most_lines) }
-    ensures { result ≡ add_message b g m }
-{
-    let f = m.from as usize;
-    let n = b.count;
-    let used = n as usize;
-    let a = b.messages;
-    let all = inserted(a, used, m);
-    let mut r = b;
-    r.signs[f] = g;
-    r.messages = all;
-    r.count = n + 1;
-    r
+    insert(&mut b.messages, usize::from(b.count), m);
+    b.signs[usize::from(m.from)] = g;
+    b.count += 1;
 }
 
 // The behaviour with a line that meets no refusal.
-fn added(b: Behaviour, l: Line) -> Behaviour
-    requires { (l.from < most_states) × (l.to < most_states) × (b.count < most_lines) }
-    ensures { result ≡ add b l }
+#[tactic(auto, unfolding(crate::specs::Adding::add))]
+fn add(b: &mut Behaviour, l: Line)
+    requires { (l.from < most_states) × (l.to < most_states) × (b.old.count < most_lines) }
+    ensures { b.new ≡ add b.old l }
 {
-    let state = l.from;
-    let from = state as u8;
-    let goal = l.to;
-    let to = goal as u8;
-    let label = l.label;
-    match label {
-        Label::Mark => with_mark(b, state),
-        Label::Take(name) => with_message(b, 1, Message { name, from, to }),
-        Label::Send(name) => with_message(b, 2, Message { name, from, to }),
-        Label::Other => b,
+    let from = l.from as u8;
+    let to = l.to as u8;
+    match l.label {
+        Label::Mark => b.marks[l.from] = 1,
+        Label::Take(name) => add_message(b, 1, Message { name, from, to }),
+        Label::Send(name) => add_message(b, 2, Message { name, from, to }),
+        Label::Other => {}
     }
 }
 
-fn is_marked_finished(m: u8, g: u8) -> bool
-    ensures { result ≡ (eqb m 1 && eqb g 0) }
+// The lowest state that is marked and finished.
+fn marked_finished(marks: &PerState, signs: &PerState) -> Option<usize>
+    ensures { MatchOption result (marked_finished 0 marks.now signs.now ≡ most_states) (λ k. (k < most_states) × (marked_finished 0 marks.now signs.now ≡ k)) }
 {
-    if m != 1 {
-        return false;
-    }
-    g == 0
-}
-
-// The lowest state that is marked and finished, or STATES.
-fn marked_finished(marks: PerState, signs: PerState) -> usize
-    ensures { result ≡ marked_finished 0 marks signs }
-{
-    let mut i = 0;
-    while i < STATES {
-        if is_marked_finished(marks[i], signs[i]) {
-            return i;
-        }
-        i += 1;
-    }
-    STATES
+    marks
+        .iter()
+        .zip(signs)
+        .position(|(&m, &g)| m == 1 && g == 0)
 }
 
 // A value with nothing in it but its number of states.
@@ -191,93 +121,59 @@ pub fn nothing(states: u8) -> Behaviour
         count: 0,
         marks: [0; STATES],
         signs: [0; STATES],
-        messages: [Message {
-            name: 0,
-            from: 0,
-            to: 0,
-        }; LINES],
+        messages: [UNUSED; LINES],
     }
 }
 
-fn refused(number: u8, place: u16) -> Read
-    ensures { result ≡ refuse number place }
-{
-    let value = nothing(0);
-    Read {
-        refusal: Refusal { number, place },
-        value,
-    }
-}
-
-fn finished(b: Behaviour) -> Read
+fn finished(b: Behaviour) -> Result<Behaviour, Refusal>
     ensures { result ≡ finish b }
 {
-    let marks = b.marks;
-    let signs = b.signs;
-    let k = marked_finished(marks, signs);
-    if k < STATES {
-        return refused(11, k as u16);
-    }
-    Read {
-        refusal: Refusal {
-            number: 0,
-            place: 0,
-        },
-        value: b,
+    match marked_finished(&b.marks, &b.signs) {
+        Some(k) => Err(Reason::FinishedMarked.at(k as u16)),
+        None => Ok(b),
     }
 }
 
-// The lines after the first, from `at` on.
-fn read_lines(s: &[u8], at: usize, count: usize, states: u8) -> Read
+// The lines after the first: `count` of them, and nothing after.
+fn read_lines(rest: &[u8], count: u16, states: u8) -> Result<Behaviour, Refusal>
     requires { (count ≤ most_lines) × (states ≤ most_states) }
-    ensures { result ≡ lines count 2 (bare states) (drop at s.now) }
+    ensures { result ≡ lines count 2 (bare states) rest.now }
 {
     let mut b = nothing(states);
-    let mut i = at;
-    let mut p: u16 = 2;
-    let mut t = count;
-    while 0 < t {
-        let Lined::Is(l, n) = tokens::read_line(s, i) else {
-            return refused(5, p);
-        };
-        let k = refusal_of(b, l);
-        if k != 0 {
-            return refused(k, p);
-        }
-        b = added(b, l);
-        i = n;
-        p += 1;
-        t -= 1;
+    let mut left = rest;
+    for p in 2..count + 2 {
+        let (line, after) = tokens::read_line(left).ok_or(Reason::LineShape.at(p))?;
+        check(&b, line).map_err(|k| k.at(p))?;
+        add(&mut b, line);
+        left = after;
     }
-    if i < s.len() {
-        return refused(5, p);
+    if !left.is_empty() {
+        return Err(Reason::LineShape.at(count + 2));
     }
     finished(b)
 }
 
 // The behaviour that a description file gives, or its refusal.
-pub fn read_file(s: &[u8]) -> Read
+#[tactic(auto, unfolding(crate::specs::File::file))]
+pub fn read_file(s: &[u8]) -> Result<Behaviour, Refusal>
     ensures { result ≡ file s.now }
 {
     if BYTES < s.len() {
-        return refused(1, 0);
+        return Err(Reason::FileTooLong.into());
     }
-    let Headed::Is(h, n) = tokens::read_head(s) else {
-        return refused(2, 1);
-    };
-    let states = h.states;
-    let count = h.lines;
-    if h.start != 0 {
-        return refused(3, 1);
+    let (head, rest) = tokens::read_head(s).ok_or(Reason::FirstLineShape.at(1))?;
+    if head.start != 0 {
+        return Err(Reason::StartNotZero.at(1));
     }
-    if states < 1 {
-        return refused(4, 1);
+    if head.states < 1 || STATES < head.states || LINES < head.lines {
+        return Err(Reason::SizeOutsideRange.at(1));
     }
-    if STATES < states {
-        return refused(4, 1);
-    }
-    if LINES < count {
-        return refused(4, 1);
-    }
-    read_lines(s, n, count, states as u8)
+    read_lines(rest, head.lines as u16, head.states as u8)
+}
+
+// What reading gave as a behaviour: one of zero states for a refusal.
+pub fn value_of(read: Result<Behaviour, Refusal>) -> Behaviour
+    ensures { result ≡ value_of read }
+{
+    read.unwrap_or(nothing(0))
 }

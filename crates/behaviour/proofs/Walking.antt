@@ -2,21 +2,21 @@
 use mathlib.Core.Path.{◌≡◌, refl, sym, ◌∙◌}
 use mathlib.Core.List.{List, [], ◌∷◌}
 use mathlib.Core.Bool.{Bool, true, false, ◌&&◌, ◌||◌}
-use Prim.Native.Nat.{ℕ, ◌+◌, ◌-◌, ◌<◌, ◌≤◌}
+use Prim.Native.Nat.{ℕ, ◌+◌, ◌<◌, ◌≤◌}
 use native.Mathlib.Omega.{arith}
 use borrow.Author.Tests.{leb-true, ltb-false, lt-ltb, eq-eqb}
 use lib.Dec.{leb, ltb, eqb}
-use lib.ListN.{length, get_or, set, take, drop, replicate, length-set, length-replicate}
+use lib.ListN.{length, get_or, set, drop, replicate, length-set, length-replicate, drop_of_length-le}
 use Rattle.names.specs.Tests.{both}
+use Rattle.names.specs.Places.{here}
 use Rattle.names.specs.Laws.{name-positive}
 use Rattle.behaviour.specs.Limits.{most_states, most_lines}
 use Rattle.behaviour.specs.declared.Message.{Message}
 use Rattle.behaviour.specs.declared.Behaviour.{Behaviour}
-use Rattle.behaviour.specs.Pick.{unused, next-used}
+use Rattle.behaviour.specs.Pick.{unused}
 use Rattle.behaviour.specs.Spoken.{spoken, settled_by, settled-spoken}
-use Rattle.behaviour.specs.Sound.{messages, before, between, all_between, sorted, blank, all_blank, settled, total, sound}
-use Rattle.behaviour.specs.SoundLaws.{Sized, between-parts}
-use Rattle.behaviour.proofs.Loops.{blank-end, blank-no, blank-more, spoken-end, spoken-more}
+use Rattle.behaviour.specs.Sound.{messages, before, between, all_between, sorted, all_blank, settled, total, sound}
+use Rattle.behaviour.specs.SoundLaws.{between-parts}
 
 -- each message by its own test and the one before it
 unfoldable pub in_turn : ℕ → Message → List Message → Bool
@@ -55,10 +55,6 @@ first-turn s (m ∷ l) = go (between s m) refl (sorted-turn s m l)
     go false q e = refl
 
 module _ (b : Behaviour) where
-  -- the messages from place i on that are used
-  abbrev left : ℕ → List Message
-  left i = take (b.count - i) (drop i b.messages)
-
   -- S and T in range
   abbrev in_range : Bool
   in_range = leb 1 b.states && (leb b.states most_states && leb (b.count + total b.marks) most_lines)
@@ -79,87 +75,53 @@ module _ (b : Behaviour) where
       go false q r u v w = refl
 
   -- place i of the used messages, with the one before it and the states noted so far
-  pub record Walking (table : List ℕ) (last : Message) (i : ℕ) : Type 0 where
-    pub says : sound b ≡ (in_turn b.states last (left i) && unread)
-    pub notes : spoken (replicate most_states 0) (messages b) ≡ spoken table (left i)
+  pub record Walking (used : List Message) (table : List Bool) (last : Message) (i : ℕ) : Type 0 where
+    pub all : used ≡ messages b
+    pub says : sound b ≡ (in_turn b.states last (drop i used) && unread)
+    pub notes : spoken (replicate most_states false) used ≡ spoken table (drop i used)
     pub width : length table ≡ most_states
-    pub within : i ≤ b.count
     pub most : b.states ≤ most_states
-    pub few : b.count ≤ most_lines
-    pub sized : Sized b
-
-  -- place i after them
-  pub record Blanking (table : List ℕ) (i : ℕ) : Type 0 where
-    pub says : sound b ≡ (all_blank (drop i b.messages) && settled 0 b.marks b.signs (messages b))
-    pub notes : spoken (replicate most_states 0) (messages b) ≡ table
-    pub sized : Sized b
 
   pub out_of_range : in_range ≡ false → false ≡ sound b
   out_of_range e = sym (in_turns ∙ rw e)
 
-  pub walking_start : Sized b → in_range ≡ true → Walking (replicate most_states 0) unused 0
-  walking_start z e =
+  pub walking_start : (used : List Message) → used ≡ messages b → in_range ≡ true → Walking used (replicate most_states false) unused 0
+  walking_start used a e =
       let f = both (leb b.states most_states) _ (both (leb 1 b.states) _ e).1 in
-      let k : b.count - 0 ≡ b.count = omega arith in
       record {
-        says = in_turns ∙ rw (e, k);
-        notes = rw k;
-        width = length-replicate {A = ℕ} most_states 0;
-        within = omega arith;
+        all = a;
+        says = rw a (in_turns ∙ rw e);
+        notes = refl;
+        width = length-replicate {A = Bool} most_states false;
         most = leb-true b.states most_states f.0;
-        few = omega (arith, leb-true (b.count + total b.marks) most_lines f.1);
-        sized = z;
       }
 
-module _ {b : Behaviour} where
-  module _ {table : List ℕ} {last : Message} {i : ℕ} (w : Walking b table last i) where
-    module _ (h : i < b.count) where
-      next : left b i ≡ get_or b.messages i unused ∷ left b (i + 1)
-      next = next-used b.count b.messages i h (omega (arith, w.few, w.sized.messages))
+module _ {b : Behaviour} {used : List Message} {table : List Bool} {last : Message} {i : ℕ} (w : Walking b used table last i) where
+  module _ (h : i < length used) where
+    abbrev m : Message
+    m = get_or used i unused
 
-      pub walking_no : (between b.states (get_or b.messages i unused) && before last (get_or b.messages i unused)) ≡ false → false ≡ sound b
-      unfolding in_turn
-      walking_no e = sym (w.says ∙ rw (next, e))
-
-      module _ (e : (between b.states (get_or b.messages i unused) && before last (get_or b.messages i unused)) ≡ true) where
-        pub walking_from : (get_or b.messages i unused).from < most_states
-        walking_from = omega (arith, (between-parts b.states (get_or b.messages i unused) (both (between b.states (get_or b.messages i unused)) _ e).0).from, w.most)
-
-        pub walking_next : (x : ℕ) → x ≡ (get_or b.messages i unused).from → Walking b (set table x 1) (get_or b.messages i unused) (i + 1)
-        unfolding in_turn
-        walking_next x q = record {
-          says = w.says ∙ rw (next, e);
-          notes = w.notes ∙ spoken-more b.count b.messages table i h (omega (arith, w.few, w.sized.messages)) ∙ rw q;
-          width = length-set table x 1 ∙ w.width;
-          within = omega arith;
-          most = w.most;
-          few = w.few;
-          sized = w.sized;
-        }
-
-    pub walking_end : b.count ≤ i → Blanking b table i
+    pub walking_no : (between b.states m && before last m) ≡ false → false ≡ sound b
     unfolding in_turn
-    walking_end h =
-        let k : b.count - i ≡ 0 = omega arith in
-        let j : i ≡ b.count = omega (arith, w.within) in
-        record {
-          says = w.says ∙ rw (k, j);
-          notes = w.notes ∙ spoken-end b.count b.messages table i h;
-          sized = w.sized;
-        }
+    walking_no e = sym (w.says ∙ rw (here unused used i h, e))
 
-  module _ {table : List ℕ} {i : ℕ} (w : Blanking b table i) where
-    module _ (h : i < most_lines) where
-      here : i < length b.messages
-      here = omega (arith, w.sized.messages)
+    module _ (e : (between b.states m && before last m) ≡ true) where
+      pub walking_from : m.from < most_states
+      walking_from = omega (arith, (between-parts b.states m (both (between b.states m) _ e).0).from, w.most)
 
-      pub blanking_no : blank (get_or b.messages i unused) ≡ false → false ≡ sound b
-      blanking_no e = sym (w.says ∙ rw (← blank-no b.messages i here e))
+      pub walking_next : Walking b used (set table m.from true) m (i + 1)
+      unfolding in_turn spoken
+      walking_next = record {
+        all = w.all;
+        says = w.says ∙ rw (here unused used i h, e);
+        notes = w.notes ∙ rw (here unused used i h);
+        width = length-set table m.from true ∙ w.width;
+        most = w.most;
+      }
 
-      pub blanking_next : blank (get_or b.messages i unused) ≡ true → Blanking b table (i + 1)
-      blanking_next e = record { says = w.says ∙ rw (blank-more b.messages i here e); notes = w.notes; sized = w.sized }
-
-    pub blanking_end : most_lines ≤ i → settled_by b.marks b.signs table ≡ sound b
-    blanking_end h =
-        sym (w.says
-        ∙ rw (← blank-end b.messages i (omega (arith, w.sized.messages)), ← settled-spoken (messages b) b.marks b.signs w.sized.marks, w.notes))
+  pub walking_end : length used ≤ i → length b.marks ≡ most_states → (all_blank (drop b.count b.messages) && settled_by b.marks b.signs table) ≡ sound b
+  unfolding in_turn spoken
+  walking_end h k =
+      let d = drop_of_length-le used h in
+      let t : spoken (replicate most_states false) (messages b) ≡ table = rw (← w.all) (w.notes ∙ rw d) in
+      sym (w.says ∙ rw (d, ← settled-spoken (messages b) b.marks b.signs k, t))

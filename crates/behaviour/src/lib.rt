@@ -2,13 +2,14 @@
 #![tactic(auto)]
 
 ghost use Rattle.std.specs.Prelude.{◌≡◌, List, ◌&&◌, ◌+◌, ◌≤◌, leb, eqb, length, get_or, take};
-ghost use Rattle.names.specs.If.{if};
 ghost use Rattle.behaviour.specs.declared.Message.{Message};
 ghost use Rattle.behaviour.specs.Pick.{is};
-ghost use Rattle.behaviour.specs.Refusals.{refusal};
+ghost use Rattle.behaviour.specs.Refusals.{row_number, refusal};
 ghost use Rattle.behaviour.specs.Spoken.{settled_by};
 ghost use Rattle.behaviour.specs.Limits.{most_states, most_lines};
 ghost use Rattle.behaviour.specs.Sound.{before, between, blank, signed, markable, total, sound};
+
+use std::fmt;
 
 // S is at most this.
 pub const STATES: usize = 10;
@@ -20,20 +21,29 @@ pub const LINES: usize = 96;
 pub const BYTES: usize = 4096;
 
 // A line with ?name or !name. The name is one number, its first byte highest.
-#[derive(Clone, Copy)]
+#[derive(Clone, Copy, PartialEq, Eq)]
 pub struct Message {
     pub name: u64,
     pub from: u8,
     pub to: u8,
 }
 
+// "Unused places are zero"
+pub const UNUSED: Message = Message {
+    name: 0,
+    from: 0,
+    to: 0,
+};
+
 pub type PerState = [u8; STATES];
 
 pub type Messages = [Message; LINES];
 
-// marks: 1 at a marked state. signs: 1 at a state that takes, 2 at one that sends, 0 at a finished one.
-// The first count messages are used; unused places are zero. The messages come first: behind smaller fields there would be a gap before
-// them, and LLVM would copy them twice where a value is made.
+// marks: 1 at a marked state. signs: 1 at a state that takes, 2 at one that sends, 0 at a finished one. The first count messages are used;
+// unused places are zero. The messages come first: behind smaller fields there would be a gap before them, and LLVM would copy them twice
+// where a value is made.
+// Kept: marks and signs are numbers and no enums, and the count stands beside the array, since a caller in C may hand over any bytes as a
+// value (`packing::unpack`), which `is_sound` then judges; and there is no heap for a list.
 #[derive(Clone, Copy)]
 pub struct Behaviour {
     pub messages: Messages,
@@ -43,23 +53,100 @@ pub struct Behaviour {
     pub signs: PerState,
 }
 
-// A refusal's number and place, from 01's table.
-#[derive(Clone, Copy)]
+impl Behaviour {
+    ghost use Rattle.behaviour.specs.Sound.{messages};
+
+    // The messages of the value: all its places if the count is past the last.
+    pub fn used_messages(&self) -> &[Message]
+        ensures { result.now ≡ messages self.now }
+    {
+        &self.messages[..used(self.count)]
+    }
+
+    // Is the state x marked?
+    pub fn is_marked(&self, x: u8) -> bool
+        ensures { result ≡ eqb (get_or self.now.marks x 0) 1 }
+    {
+        entry(self.marks, x) == 1
+    }
+
+    // Does the state x take messages?
+    pub fn takes(&self, x: u8) -> bool
+        ensures { result ≡ eqb (get_or self.now.signs x 0) 1 }
+    {
+        entry(self.signs, x) == 1
+    }
+
+    // Does the state x send messages?
+    pub fn sends(&self, x: u8) -> bool
+        ensures { result ≡ eqb (get_or self.now.signs x 0) 2 }
+    {
+        entry(self.signs, x) == 2
+    }
+}
+
+// Why something is refused: the rows of 01's table, each with its number.
+#[derive(Clone, Copy, PartialEq, Eq, Debug)]
+pub enum Reason {
+    FileTooLong = 1,
+    FirstLineShape = 2,
+    StartNotZero = 3,
+    SizeOutsideRange = 4,
+    LineShape = 5,
+    StateTooHigh = 6,
+    OtherLabel = 7,
+    MisplacedMark = 8,
+    TakingAndSending = 9,
+    SameNameAgain = 10,
+    FinishedMarked = 11,
+    LongerThanLent = 12,
+    NoFileGivesIt = 13,
+    NotCompliant = 14,
+    NoStand = 15,
+    MessageNotPossible = 16,
+    RollbackNotPossible = 17,
+}
+
+impl Reason {
+    // Kept: a method and no `From<Reason> for u8`, which would be no plainer: `number` says which byte it is, the row's.
+    pub fn number(self) -> u8
+        ensures { result ≡ row_number self }
+    {
+        self as u8
+    }
+
+    pub fn at(self, place: u16) -> Refusal
+        ensures { result ≡ refusal self place }
+    {
+        Refusal {
+            reason: self,
+            place,
+        }
+    }
+}
+
+// A refusal's reason and place, from 01's table.
+#[derive(Clone, Copy, PartialEq, Eq)]
 pub struct Refusal {
-    pub number: u8,
+    pub reason: Reason,
     pub place: u16,
 }
 
-pub fn wide(x: u8) -> usize
-    ensures { result ≡ x }
-{
-    x as usize
+// At place 0, as most rows have it.
+impl From<Reason> for Refusal {
+    ghost from_gives = { λ reason f. f ≡ refusal reason 0 };
+
+    fn from(reason: Reason) -> Refusal {
+        reason.at(0)
+    }
 }
 
-pub fn refuse(number: u8, place: u16) -> Refusal
-    ensures { result ≡ refusal number place }
-{
-    Refusal { number, place }
+impl fmt::Display for Refusal {
+    fn fmt<W: fmt::Write>(&self, f: &mut fmt::Formatter<W>) -> fmt::Result {
+        let number = self.reason.number();
+        let place = self.place;
+        write!(f, "{number} {place}")
+    }
 }
 
 // How many places of a value are used: all of them if the count is past the last.
@@ -67,201 +154,113 @@ pub fn used(count: u8) -> usize
     ensures bounded { result ≤ 96 }
     ensures same { (a : List Message) → length a ≡ 96 → take result a ≡ take count a }
 {
-    let n = wide(count);
-    if LINES < n {
-        return LINES;
-    }
-    n
+    usize::from(count).min(LINES)
 }
 
 // The entry of the state x; 0 past the last state.
+// Kept: no Option, since the clause promises `get_or a x 0`.
 pub fn entry(a: PerState, x: u8) -> u8
     ensures { result ≡ get_or a x 0 }
 {
-    let i = wide(x);
-    if i < STATES {
-        return a[i];
-    }
-    0
+    a.get(usize::from(x)).copied().unwrap_or(0)
 }
 
 // By state, then by name.
+// Kept: no derived order, which would read `to` as well, and `before` does not.
 pub fn comes_before(a: Message, b: Message) -> bool
     ensures { result ≡ before a b }
 {
-    if a.from < b.from {
-        return true;
-    }
-    if a.from != b.from {
-        return false;
-    }
-    a.name < b.name
+    (a.from, a.name) < (b.from, b.name)
 }
 
 // Is it the message `n` from the state `x`?
 pub fn is_at(m: Message, x: u8, n: u64) -> bool
     ensures { result ≡ is x n m }
 {
-    if m.from != x {
-        return false;
-    }
-    m.name == n
+    (m.from, m.name) == (x, n)
 }
 
 fn is_between(m: Message, states: u8) -> bool
     ensures { result ≡ between states m }
 {
-    if states <= m.from {
-        return false;
-    }
-    if states <= m.to {
-        return false;
-    }
-    let n = m.name;
-    names::is_name(n)
+    m.from < states && m.to < states && names::is_name(m.name)
 }
 
 // A used message, by its own test and the message before it.
 fn is_next(last: Message, m: Message, states: u8) -> bool
     ensures { result ≡ (between states m && before last m) }
 {
-    if !is_between(m, states) {
-        return false;
-    }
-    comes_before(last, m)
+    is_between(m, states) && comes_before(last, m)
 }
 
 fn is_blank(m: Message) -> bool
     ensures { result ≡ blank m }
 {
-    (m.from == 0) & ((m.name == 0) & (m.to == 0))
+    m == UNUSED
 }
 
 fn is_signed(speaking: bool, g: u8) -> bool
     ensures { result ≡ signed speaking g }
 {
-    if speaking {
-        if g == 1 {
-            return true;
-        }
-        return g == 2;
-    }
-    g == 0
+    matches!((speaking, g), (true, 1 | 2) | (false, 0))
 }
 
 fn is_markable(m: u8, g: u8) -> bool
     ensures { result ≡ markable m g }
 {
-    if m == 0 {
-        return true;
-    }
-    if m != 1 {
-        return false;
-    }
-    g != 0
+    m == 0 || m == 1 && g != 0
 }
 
 // A state, by its mark, its sign and whether it speaks.
-fn is_state(m: u8, g: u8, t: u8) -> bool
-    ensures { result ≡ (signed (eqb t 1) g && markable m g) }
+fn is_state(m: u8, g: u8, speaking: bool) -> bool
+    ensures { result ≡ (signed speaking g && markable m g) }
 {
-    let speaking = t == 1;
-    if !is_signed(speaking, g) {
-        return false;
-    }
-    is_markable(m, g)
+    is_signed(speaking, g) && is_markable(m, g)
 }
 
-fn is_settled(marks: PerState, signs: PerState, table: PerState) -> bool
-    ensures { result ≡ settled_by marks signs table }
+fn is_settled(marks: PerState, signs: PerState, speaking: [bool; STATES]) -> bool
+    ensures { result ≡ settled_by marks signs speaking }
 {
-    let mut i = 0;
-    while i < STATES {
-        let m = marks[i];
-        let g = signs[i];
-        let t = table[i];
-        if !is_state(m, g, t) {
-            return false;
-        }
-        i += 1;
-    }
-    true
-}
-
-// What a mark adds to the count.
-pub fn one(m: u8) -> usize
-    ensures { result ≡ if (eqb m 1) 1 0 }
-{
-    if m == 1 {
-        return 1;
-    }
-    0
+    marks
+        .iter()
+        .zip(&signs)
+        .zip(&speaking)
+        .all(|((m, g), t)| is_state(*m, *g, *t))
 }
 
 // How many states are marked.
 pub fn marked_count(marks: PerState) -> usize
     ensures { result ≡ total marks }
 {
-    let mut n = 0;
-    let mut i = 0;
-    while i < STATES {
-        let m = marks[i];
-        let k = one(m);
-        n += k;
-        i += 1;
-    }
-    n
+    marks.iter().filter(|m| **m == 1).count()
 }
 
 // S and T are in range; T counts mark lines too.
 fn is_in_range(states: u8, count: u8, marks: PerState) -> bool
     ensures { result ≡ (leb 1 states && (leb states most_states && leb (count + total marks) most_lines)) }
 {
-    if states < 1 {
-        return false;
-    }
-    if STATES < wide(states) {
-        return false;
-    }
-    wide(count) + marked_count(marks) <= LINES
+    1 <= states
+        && usize::from(states) <= STATES
+        && usize::from(count) + marked_count(marks) <= LINES
 }
 
-// Does some accepted file give the value? Its array is read here, each place once: every function that reads a place copies the value.
-pub fn is_sound(b: Behaviour) -> bool
-    ensures { result ≡ sound b }
+// Does some accepted file give the value?
+pub fn is_sound(b: &Behaviour) -> bool
+    ensures { result ≡ sound b.now }
 {
-    let states = b.states;
-    let count = b.count;
-    let marks = b.marks;
-    if !is_in_range(states, count, marks) {
+    if !is_in_range(b.states, b.count, b.marks) {
         return false;
     }
-    let n = wide(count);
-    let mut table = [0; STATES];
+    let (used, rest) = b.messages.split_at(usize::from(b.count));
+    let mut speaking = [false; STATES];
     // No name is 0, so the first message comes after an unused place.
-    let mut last = Message {
-        name: 0,
-        from: 0,
-        to: 0,
-    };
-    let mut i = 0;
-    while i < n {
-        let m = b.messages[i];
-        if !is_next(last, m, states) {
+    let mut last = UNUSED;
+    for m in used {
+        if !is_next(last, *m, b.states) {
             return false;
         }
-        let x = wide(m.from);
-        table[x] = 1;
-        last = m;
-        i += 1;
+        speaking[usize::from(m.from)] = true;
+        last = *m;
     }
-    while i < LINES {
-        let m = b.messages[i];
-        if !is_blank(m) {
-            return false;
-        }
-        i += 1;
-    }
-    let signs = b.signs;
-    is_settled(marks, signs, table)
+    rest.iter().all(|m| is_blank(*m)) && is_settled(b.marks, b.signs, speaking)
 }

@@ -1,16 +1,13 @@
 -- Definition 3.1 and runs: a pair is compliant exactly if no run reaches a bad stand.
 use Rattle.std.proofs.Math.Path.{◌≡◌, refl, ap, subst}
 use Rattle.std.proofs.Common.{sym, inl, inr, arith, eq-eqb}
-use Rattle.std.specs.Prelude.{Bool, ◌||◌, ◌⊎◌, ◌↔◌, eqb}
+use Rattle.std.specs.Prelude.{Bool, ◌||◌, ◌⊎◌, ◌↔◌, eqb, None, Some}
 use Rattle.std.proofs.Math.Bool.{true, false}
 use mathlib.Core.List.{List, [], ◌∷◌}
-use Rattle.std.proofs.Math.Option.{none, some}
 use Prim.Native.Nat.{ℕ, zero, suc, ◌<◌}
 use Rattle.behaviour.specs.declared.Behaviour.{Behaviour}
-use Rattle.stands.specs.declared.ClientPoint.{ClientPoint}
-use Rattle.stands.specs.declared.ClientPoint.TheVariants as client
-use Rattle.stands.specs.declared.ServerPoint.{ServerPoint}
-use Rattle.stands.specs.declared.ServerPoint.TheVariants as server
+use Rattle.stands.specs.Points.{ClientPoint}
+use Rattle.stands.specs.Points.{ServerPoint}
 use Rattle.stands.specs.declared.Stand.{Stand}
 use Rattle.names.specs.If.{if}
 use Rattle.stands.specs.Stands.{among, empty, names, finished, possible, moved, message, even, evenly, cause, start, step, pair}
@@ -24,11 +21,11 @@ empty-nil : (l : List ℕ) → empty l ≡ true → l ≡ []
 empty-nil [] e = refl
 empty-nil (n ∷ l) e = absurd (let z : ◌≡◌ {A = ℕ} 0 1 = cc in omega arith)
 
-even-yes : (g : ClientPoint) (d : ServerPoint) → evenly g d ≡ true → ((g ≡ client.Nowhere) × (d ≡ server.Nowhere)) ⊎ ((x : _) × (y : _) × (g ≡ client.To x) × (d ≡ server.To y))
-even-yes (client.To x) (server.To y) e = inr (x, y, refl, refl)
-even-yes (client.To x) server.Nowhere e = absurd (let z : ◌≡◌ {A = ℕ} 0 1 = cc in omega arith)
-even-yes client.Nowhere (server.To y) e = absurd (let z : ◌≡◌ {A = ℕ} 0 1 = cc in omega arith)
-even-yes client.Nowhere server.Nowhere e = inl (refl, refl)
+even-yes : (g : ClientPoint) (d : ServerPoint) → evenly g d ≡ true → ((g ≡ None) × (d ≡ None)) ⊎ ((x : _) × (y : _) × (g ≡ Some x) × (d ≡ Some y))
+even-yes (Some x) (Some y) e = inr (x, y, refl, refl)
+even-yes (Some x) None e = absurd (let z : ◌≡◌ {A = ℕ} 0 1 = cc in omega arith)
+even-yes None (Some y) e = absurd (let z : ◌≡◌ {A = ℕ} 0 1 = cc in omega arith)
+even-yes None None e = inl (refl, refl)
 
 even_of : (p : Stand) → Neither p ⊎ Both p → even p ≡ true
 even_of p (inl (a, b)) = rw (a, b)
@@ -36,22 +33,22 @@ even_of p (inr (x, y, a, b)) = rw (a, b)
 
 module _ (c s : Behaviour) (p : Stand) where
   -- no message is a step exactly if none is possible
-  none-yes : empty (possible c s p.client p.server) ≡ true → (n : ℕ) → message c s p n ≡ none
+  none-yes : empty (possible c s p.client p.server) ≡ true → (n : ℕ) → message c s p n ≡ None
   unfolding message among
   none-yes e n = rw (empty-nil (possible c s p.client p.server) e)
 
-  none-no : ((n : ℕ) → message c s p n ≡ none) → empty (possible c s p.client p.server) ≡ true
+  none-no : ((n : ℕ) → message c s p n ≡ None) → empty (possible c s p.client p.server) ≡ true
   unfolding message among
   none-no f = go (possible c s p.client p.server) refl
     where
       go : (l : List ℕ) → possible c s p.client p.server ≡ l → empty l ≡ true
       go [] e = refl
-      go (n ∷ l) e = absurd (let h : if (eqb n n || among n l) (some (moved c s p n)) none ≡ none = rw e at (f n) in
-          let g : some (moved c s p n) ≡ none = rw (eq-eqb n n refl) at h in
+      go (n ∷ l) e = absurd (let h : if (eqb n n || among n l) (Some (moved c s p n)) None ≡ None = rw e at (f n) in
+          let g : Some (moved c s p n) ≡ None = rw (eq-eqb n n refl) at h in
           let z : ◌≡◌ {A = ℕ} 0 1 = cc in omega arith)
 
   -- condition 1 fails exactly at a bad stand
-  pub fine-cause : (((n : ℕ) → message c s p n ≡ none) → Ended c p) → cause c s p ≡ 0
+  pub fine-cause : (((n : ℕ) → message c s p n ≡ None) → Ended c p) → cause c s p ≡ 0
   unfolding cause
   fine-cause f = go (empty (possible c s p.client p.server)) refl
     where
@@ -59,7 +56,7 @@ module _ (c s : Behaviour) (p : Stand) where
       go false e = refl
       go true e = let h = f (none-yes e) in let g : finished c p.client.0 ≡ true = ap empty h.0 in rw (g, even_of p h.1)
 
-  pub cause-fine : cause c s p ≡ 0 → ((n : ℕ) → message c s p n ≡ none) → Ended c p
+  pub cause-fine : cause c s p ≡ 0 → ((n : ℕ) → message c s p n ≡ None) → Ended c p
   unfolding cause
   cause-fine e f = go (finished c p.client.0) (even p) refl refl (rw (none-no f) at e)
     where
@@ -78,15 +75,15 @@ module _ (c s : Behaviour) where
   unfolding Safe from
   safe_contains p h [] q e b = let f : p ≡ q = cc in omega (arith, subst (λ i. 0 < cause c s i) (sym f) b, fine-cause c s p h.ended)
   safe_contains p h (x ∷ w) q e b = let o = opened (pair c s) (step c s p x) w q e in
-      after-step c s (Safe c s) p o.0 x h o.1 w q (subst (λ i. from (pair c s) i w ≡ some q) o.1 e) b
+      after-step c s (Safe c s) p o.0 x h o.1 w q (subst (λ i. from (pair c s) i w ≡ Some q) o.1 e) b
 
   module _ (few : Few c s) where
     pub safe_within : Closed c s (Safe c s)
     unfolding Safe from step
     safe_within p r = record {
       ended = cause-fine c s p (nil (cause c s p) refl);
-      forward = λ n q e w o f b. let k = labelled c s few p q n e in r (k.0 ∷ w) o (subst (λ i. from (pair c s) i w ≡ some o) (sym k.1) f) b;
-      backward = λ q e w o f b. r (255 ∷ w) o (subst (λ i. from (pair c s) i w ≡ some o) (sym e) f) b;
+      forward = λ n q e w o f b. let k = labelled c s few p q n e in r (k.0 ∷ w) o (subst (λ i. from (pair c s) i w ≡ Some o) (sym k.1) f) b;
+      backward = λ q e w o f b. r (255 ∷ w) o (subst (λ i. from (pair c s) i w ≡ Some o) (sym e) f) b;
     }
       where
         nil : (k : ℕ) → cause c s p ≡ k → k ≡ 0

@@ -1,7 +1,6 @@
 -- A pair has one judgement: two that are allowed are equal.
-use Rattle.std.specs.Prelude.{◌≡◌, List, ℕ}
+use Rattle.std.specs.Prelude.{◌≡◌, List, ℕ, Some}
 use Rattle.std.proofs.Common.{subst, arith}
-use Rattle.std.proofs.Math.Option.{some}
 use Rattle.behaviour.specs.declared.Behaviour.{Behaviour}
 use Rattle.stands.specs.Stands.{cause, pair}
 use Rattle.stands.specs.Judgement.{Judgement, compliant, stuck, Judged}
@@ -18,7 +17,7 @@ judged_unique c s (stuck e r) (stuck f t) p q =
     let w : r ≡ t = cc in
     let n = p.0.0.node in
     let u : cause c s n ≡ e = p.1 n p.0.0.leads in
-    let v : cause c s n ≡ f = q.1 n (subst (λ i. runs.after (pair c s) i ≡ some n) w p.0.0.leads) in
+    let v : cause c s n ≡ f = q.1 n (subst (λ i. runs.after (pair c s) i ≡ Some n) w p.0.0.leads) in
     cc
 
 -- no pair is both compliant and stuck

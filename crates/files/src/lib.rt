@@ -4,13 +4,13 @@
 ghost use Rattle.std.specs.Io.{ReadsAtMost};
 ghost use Rattle.io.specs.Counts.{IsPrefixLen};
 
-use report::Reported;
 use std::fs::File;
 use std::io;
 use std::io::Read;
 use std::rt::Files;
 
 // Reads until `text` is full or the file ends: how many bytes are read. A read that fails ends it.
+// Kept: a loop over `read`, since of the library's methods `read_exact` fails where the file ends first, and `read_to_end` needs a heap.
 fn read_full(file: &mut impl Read, text: &mut [u8]) -> io::Result<usize>
     ensures { ReadsAtMost result text.new }
 {
@@ -41,28 +41,24 @@ fn read_file(rt: &impl Files, path: &[u8], text: &mut [u8]) -> io::Result<usize>
 }
 
 // The bytes of the file `path`, as many as `text` takes: how many. A file that can't be read counts as empty.
+// Kept: a count beside the buffer, and no slice, here and in `judge`, since each promises `IsPrefixLen` of its count.
 pub fn load(rt: &impl Files, path: &[u8], text: &mut [u8]) -> usize
     ensures { IsPrefixLen result text.new }
 {
-    match read_file(rt, path, text) {
-        Ok(got) => got,
-        Err(_) => 0,
-    }
+    read_file(rt, path, text).unwrap_or(0)
 }
 
 // How many bytes of `text` the report on two files' bytes takes; none if it does not fit.
+// Kept: a cast, since the library has no `From` between the two; it is proved to fit.
 fn tell(client: &[u8], server: &[u8], text: &mut [u8]) -> usize
     ensures { IsPrefixLen result text.new }
 {
-    let told = report::report(client, server, text);
-    match told {
-        Reported::Bytes(n) => n as usize,
-        Reported::Refused(_) => 0,
-    }
+    report::report(client, server, text).map_or(0, |n| n as usize)
 }
 
 // The report on the two files, in `text`: how many bytes. One byte more than a file may have is read of each: what is longer
 // is refused whatever its size.
+// Kept: the two files' names, here, and their bytes, in `tell`, are told apart by their names alone, as in `Reports` and in C's calls (docs/HOST.md).
 pub fn judge(rt: &impl Files, client: &[u8], server: &[u8], text: &mut [u8]) -> usize
     ensures { IsPrefixLen result text.new }
 {

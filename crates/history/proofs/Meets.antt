@@ -1,8 +1,7 @@
 -- What moves by the steps alone and never comes to a bad stand meets demand 3.
-use Rattle.std.specs.Prelude.{◌≡◌, Bool, true, false, List, ℕ}
+use Rattle.std.specs.Prelude.{◌≡◌, Bool, true, false, List, ℕ, Option, None, Some}
 use Rattle.std.proofs.Math.Path.{refl, ap}
 use Rattle.std.proofs.Common.{◌∙◌, subst, arith}
-use Rattle.std.proofs.Math.Option.{Option, none, some}
 use Rattle.history.specs.Calls.{Call, message, rollback, Calls, opening, ◌then◌}
 use Rattle.history.specs.Side.{Side}
 use Rattle.history.specs.Point.{Back, point-opening, point-message, point-refused, point-back, point_one}
@@ -10,13 +9,13 @@ use Rattle.history.specs.Demand.{Seen, ClientPoint, ServerPoint, Sendable, Deman
 use Rattle.history.specs.Played.{Standing, has, or_else, session, seen}
 use Rattle.history.specs.Meets.{Steps}
 
-none_has : {A : Type 0} (o : Option A) → has o ≡ false → o ≡ none
-none_has none e = refl
-none_has (some a) e = absurd (let z : ◌≡◌ {A = ℕ} 0 1 = cc in omega arith)
+none_has : {A : Type 0} (o : Option A) → has o ≡ false → o ≡ None
+none_has None e = refl
+none_has (Some a) e = absurd (let z : ◌≡◌ {A = ℕ} 0 1 = cc in omega arith)
 
-some-has : {A : Type 0} (o : Option A) → has o ≡ true → (a : A) × (o ≡ some a)
-some-has none e = absurd (let z : ◌≡◌ {A = ℕ} 0 1 = cc in omega arith)
-some-has (some a) e = (a, refl)
+some-has : {A : Type 0} (o : Option A) → has o ≡ true → (a : A) × (o ≡ Some a)
+some-has None e = absurd (let z : ◌≡◌ {A = ℕ} 0 1 = cc in omega arith)
+some-has (Some a) e = (a, refl)
 
 module _ {A B : Type 0} (named : List ℕ → Option ℕ) (C : Side A) (S : Side B) {Z : Type 0} (next : Z → Call → Option Z) (opened : Z) (at : Z → Standing A B) (k : Steps named C S next opened at) where
   abbrev after : Calls → Z
@@ -31,15 +30,15 @@ module _ {A B : Type 0} (named : List ℕ → Option ℕ) (C : Side A) (S : Side
     pub client : ClientPoint C S w h (at (after h)).clientpoint
     pub server : ServerPoint C S w h (at (after h)).serverpoint
 
-  keeps : (h : Calls) (c : Call) → next (after h) c ≡ none → after (h then c) ≡ after h
+  keeps : (h : Calls) (c : Call) → next (after h) c ≡ None → after (h then c) ≡ after h
   unfolding session
   keeps h c e = ap (or_else (after h)) e
 
-  goes_to : (h : Calls) (c : Call) (y : Z) → next (after h) c ≡ some y → after (h then c) ≡ y
+  goes_to : (h : Calls) (c : Call) (y : Z) → next (after h) c ≡ Some y → after (h then c) ≡ y
   unfolding session
   goes_to h c y e = ap (or_else (after h)) e
 
-  granted-some : (h : Calls) (c : Call) → w.granted h c ≡ true → (y : Z) × (next (after h) c ≡ some y)
+  granted-some : (h : Calls) (c : Call) → w.granted h c ≡ true → (y : Z) × (next (after h) c ≡ Some y)
   granted-some h c e = some-has (next (after h) c) e
 
   rolls-back : {D : Type 0} (marked : D → Bool) (here : Calls → D) (h : Calls) → w.granted h rollback ≡ true → Back w.granted marked here h rollback
@@ -47,19 +46,19 @@ module _ {A B : Type 0} (named : List ℕ → Option ℕ) (C : Side A) (S : Side
   rolls-back marked here h e = e
 
   told-next : (h : Calls) (c : Call) → Told h → (o : Option Z) → next (after h) c ≡ o → Told (h then c)
-  told-next h c t none e = record {
+  told-next h c t None e = record {
     good = rw (keeps h c e) t.good;
     client = rw (keeps h c e) (point-refused _ _ _ h c _ (ap has e) t.client);
     server = rw (keeps h c e) (point-refused _ _ _ h c _ (ap has e) t.server);
   }
-  told-next h (message n) t (some y) e =
+  told-next h (message n) t (Some y) e =
       let q = (k.moved (after h) y n t.good e).2 in
       record {
         good = rw (goes_to h (message n) y e) (k.good-next (after h) y (message n) t.good e);
         client = rw (goes_to h (message n) y e, q.clientpoint) (point-message _ _ _ h n _ (ap has e) t.client);
         server = rw (goes_to h (message n) y e, q.serverpoint) (point-message _ _ _ h n _ (ap has e) t.server);
       }
-  told-next h rollback t (some y) e =
+  told-next h rollback t (Some y) e =
       let q = k.rolled (after h) y t.good e in
       record {
         good = rw (goes_to h rollback y e) (k.good-next (after h) y rollback t.good e);
@@ -76,16 +75,16 @@ module _ {A B : Type 0} (named : List ℕ → Option ℕ) (C : Side A) (S : Side
   }
   told (h then c) = told-next h c (told h) (next (after h) c) refl
 
-  client-held : (h : Calls) (x : A) → ClientPoint C S w h (some x) → (at (after h)).clientpoint ≡ some x
+  client-held : (h : Calls) (x : A) → ClientPoint C S w h (Some x) → (at (after h)).clientpoint ≡ Some x
   client-held h x p = point_one _ _ _ h _ _ (told h).client p
 
-  server-held : (h : Calls) (y : B) → ServerPoint C S w h (some y) → (at (after h)).serverpoint ≡ some y
+  server-held : (h : Calls) (y : B) → ServerPoint C S w h (Some y) → (at (after h)).serverpoint ≡ Some y
   server-held h y p = point_one _ _ _ h _ _ (told h).server p
 
   abbrev Held : Calls → Type 0
-  Held h = (x : A) × (y : B) × ClientPoint C S w h (some x) × ServerPoint C S w h (some y)
+  Held h = (x : A) × (y : B) × ClientPoint C S w h (Some x) × ServerPoint C S w h (Some y)
 
-  sendable : (h : Calls) (n : List ℕ) → w.granted h (message n) ≡ true → (m : ℕ) × (named n ≡ some m) × Sendable C S w h m
+  sendable : (h : Calls) (n : List ℕ) → w.granted h (message n) ≡ true → (m : ℕ) × (named n ≡ Some m) × Sendable C S w h m
   sendable h n e =
       let s = granted-some h (message n) e in
       let p = k.moved (after h) s.0 n (told h).good s.1 in
@@ -97,7 +96,7 @@ module _ {A B : Type 0} (named : List ℕ → Option ℕ) (C : Side A) (S : Side
       let q = k.rolled (after h) s.0 (told h).good s.1 in
       ((at s.0).client, (at s.0).server, subst (ClientPoint C S w h) q.client (told h).client, subst (ServerPoint C S w h) q.server (told h).server)
 
-  by-message : (h : Calls) (n : List ℕ) (m : ℕ) → w.granted h (message n) ≡ true → named n ≡ some m
+  by-message : (h : Calls) (n : List ℕ) (m : ℕ) → w.granted h (message n) ≡ true → named n ≡ Some m
       → (w.client (h then message n) ≡ C.goes (w.client h) m) × (w.server (h then message n) ≡ S.goes (w.server h) m)
   by-message h n m e f =
       let s = granted-some h (message n) e in
@@ -105,7 +104,7 @@ module _ {A B : Type 0} (named : List ℕ → Option ℕ) (C : Side A) (S : Side
       let i : p.0 ≡ m = cc (p.1, f) in
       rw (goes_to h (message n) s.0 s.1) (p.2.client ∙ ap (C.goes (w.client h)) i, p.2.server ∙ ap (S.goes (w.server h)) i)
 
-  by-rollback : (h : Calls) (x : A) (y : B) → w.granted h rollback ≡ true → ClientPoint C S w h (some x) → ServerPoint C S w h (some y)
+  by-rollback : (h : Calls) (x : A) (y : B) → w.granted h rollback ≡ true → ClientPoint C S w h (Some x) → ServerPoint C S w h (Some y)
       → (w.client (h then rollback) ≡ x) × (w.server (h then rollback) ≡ y)
   by-rollback h x y e f g =
       let s = granted-some h rollback e in

@@ -1,7 +1,6 @@
 -- A sham session that demand 3 shuts out: it does what one of 01's "Errors that look right" tells.
-use Rattle.std.specs.Prelude.{◌≡◌, true, false, List, ℕ}
+use Rattle.std.specs.Prelude.{◌≡◌, true, false, List, ℕ, Option}
 use Rattle.std.proofs.Common.{sym, ◌∙◌, inl, inr, arith}
-use Rattle.std.proofs.Math.Option.{Option}
 use Rattle.history.specs.Calls.{message, opening}
 use Rattle.history.specs.Side.{Side, Can, Possible}
 use Rattle.history.specs.Demand.{Seen, Demand}

@@ -1,7 +1,6 @@
 -- Demand 3: what a session has to do "after any calls, refused ones among them".
 -- It speaks of what is seen and of no session's fields, so that it cannot repeat the code's own update.
-use Rattle.std.specs.Prelude.{◌≡◌, Bool, true, false, List, ◌⊎◌, ◌↔◌, ℕ}
-use Rattle.std.proofs.Math.Option.{Option, none, some}
+use Rattle.std.specs.Prelude.{◌≡◌, Bool, true, false, List, ◌⊎◌, ◌↔◌, ℕ, Option, None, Some}
 use Rattle.history.specs.Calls.{Call, message, rollback, Calls, opening, ◌then◌}
 use Rattle.history.specs.Side.{Side, Possible}
 use Rattle.history.specs.Point.{Point}
@@ -31,16 +30,16 @@ pub record Demand {A B : Type 0} (named : List ℕ → Option ℕ) (C : Side A) 
   -- "A refused session call hands back no session: the one given still holds"
   pub refused : (h : Calls) (c : Call) → w.granted h c ≡ false → (w.client (h then c) ≡ w.client h) × (w.server (h then c) ≡ w.server h)
   -- "a message is granted exactly if one side may send it and the other takes all that side may send"
-  pub message-granted : (h : Calls) (n : List ℕ) → (w.granted h (message n) ≡ true) ↔ ((m : ℕ) × (named n ≡ some m) × Sendable C S w h m)
+  pub message-granted : (h : Calls) (n : List ℕ) → (w.granted h (message n) ≡ true) ↔ ((m : ℕ) × (named n ≡ Some m) × Sendable C S w h m)
   -- "both move"
-  pub message-moves : (h : Calls) (n : List ℕ) (m : ℕ) → w.granted h (message n) ≡ true → named n ≡ some m
+  pub message-moves : (h : Calls) (n : List ℕ) (m : ℕ) → w.granted h (message n) ≡ true → named n ≡ Some m
       → (w.client (h then message n) ≡ C.goes (w.client h) m) × (w.server (h then message n) ≡ S.goes (w.server h) m)
   -- "A rollback is granted exactly when both hold one"
-  pub rollback-granted : (h : Calls) → (w.granted h rollback ≡ true) ↔ ((x : A) × (y : B) × ClientPoint C S w h (some x) × ServerPoint C S w h (some y))
+  pub rollback-granted : (h : Calls) → (w.granted h rollback ≡ true) ↔ ((x : A) × (y : B) × ClientPoint C S w h (Some x) × ServerPoint C S w h (Some y))
   -- "it puts both there"
-  pub rollback-moves : (h : Calls) (x : A) (y : B) → w.granted h rollback ≡ true → ClientPoint C S w h (some x) → ServerPoint C S w h (some y)
+  pub rollback-moves : (h : Calls) (x : A) (y : B) → w.granted h rollback ≡ true → ClientPoint C S w h (Some x) → ServerPoint C S w h (Some y)
       → (w.client (h then rollback) ≡ x) × (w.server (h then rollback) ≡ y)
   -- "and clears both"
-  pub rollback_clears : (h : Calls) → w.granted h rollback ≡ true → ClientPoint C S w (h then rollback) none × ServerPoint C S w (h then rollback) none
+  pub rollback_clears : (h : Calls) → w.granted h rollback ≡ true → ClientPoint C S w (h then rollback) None × ServerPoint C S w (h then rollback) None
   -- "At all times the client is finished, or one side has a message to send and the other takes every message it may send"
   pub always : (h : Calls) → (C.finished (w.client h) ≡ true) ⊎ ((m : ℕ) × Sendable C S w h m)

@@ -1,8 +1,7 @@
 -- Demand 3 settles everything that is seen: two sessions that meet it grant the same calls and stand at the same states.
-use Rattle.std.specs.Prelude.{◌≡◌, Bool, true, false, List, ℕ}
+use Rattle.std.specs.Prelude.{◌≡◌, Bool, true, false, List, ℕ, Option, None, Some}
 use Rattle.std.proofs.Math.Path.{refl, sym}
 use Rattle.std.proofs.Common.{◌∙◌, inl, inr}
-use Rattle.std.proofs.Math.Option.{Option, none, some}
 use Rattle.history.specs.Calls.{Call, message, rollback, Calls, opening, ◌then◌, Made}
 use Rattle.history.specs.Point.{Left, Back, Since, Point}
 use Rattle.history.specs.Side.{Side}
@@ -38,9 +37,9 @@ module _ {A : Type 0} (marked : A → Bool) (g k : Calls → Call → Bool) (a b
   -- the return point is told by the calls made and where the side stood at them
   point-other : (p : Option A) → Point g marked a h p → Point k marked b h p
   unfolding Point
-  point-other none p = λ e c x m l s. p e c x m
+  point-other None p = λ e c x m l s. p e c x m
       (left_other marked k g b a e c x (ways e c m).0 (ways e c m).1 l) (since-other marked k g b a h ways e c s)
-  point-other (some x) p = (
+  point-other (Some x) p = (
     p.0,
     p.1,
     p.2,
@@ -75,7 +74,7 @@ module _ {A B : Type 0} (named : List ℕ → Option ℕ) (C : Side A) (S : Side
     grants a b (message n) g = (b.message-granted h n).1 (rw (p.now.client, p.now.server) at ((a.message-granted h n).0 g))
     grants a b rollback g =
         let r = (a.rollback-granted h).0 g in
-        (b.rollback-granted h).1 (r.0, r.1, client-point (some r.0) r.2, server-point (some r.1) r.3)
+        (b.rollback-granted h).1 (r.0, r.1, client-point (Some r.0) r.2, server-point (Some r.1) r.3)
 
   module _ (v w : Seen A B) (a : Demand named C S v) (b : Demand named C S w) where
     moved : (h : Calls) (c : Call) → Past v w h → v.granted h c ≡ true → w.granted h c ≡ true → Same v w (h then c)
@@ -87,7 +86,7 @@ module _ {A B : Type 0} (named : List ℕ → Option ℕ) (C : Side A) (S : Side
     moved h rollback p g k =
         let r = (a.rollback-granted h).0 g in
         let s = a.rollback-moves h r.0 r.1 g r.2 r.3 in
-        let t = b.rollback-moves h r.0 r.1 k (client-point v w h p (some r.0) r.2) (server-point v w h p (some r.1) r.3) in
+        let t = b.rollback-moves h r.0 r.1 k (client-point v w h p (Some r.0) r.2) (server-point v w h p (Some r.1) r.3) in
         record { client = s.0 ∙ sym t.0; server = s.1 ∙ sym t.1 }
 
     grant : (h : Calls) (c : Call) → Past v w h → v.granted h c ≡ w.granted h c

@@ -1,6 +1,5 @@
 -- A session played over any list of calls, and what is seen of it.
-use Rattle.std.specs.Prelude.{Bool, true, false}
-use Rattle.std.proofs.Math.Option.{Option, none, some}
+use Rattle.std.specs.Prelude.{Bool, true, false, Option, None, Some}
 use Rattle.history.specs.Calls.{Call, Calls, opening, ◌then◌}
 use Rattle.history.specs.Demand.{Seen}
 
@@ -12,12 +11,12 @@ pub record Standing (A B : Type 0) : Type 0 where
   pub serverpoint : Option B
 
 abbrev pub has : {A : Type 0} → Option A → Bool
-has none = false
-has (some a) = true
+has None = false
+has (Some a) = true
 
 abbrev pub or_else : {A : Type 0} → A → Option A → A
-or_else a none = a
-or_else a (some b) = b
+or_else a None = a
+or_else a (Some b) = b
 
 -- next z c: the session that the call c on z hands back, if it is granted
 module _ {Z : Type 0} (next : Z → Call → Option Z) (opened : Z) where

@@ -1,8 +1,7 @@
 -- A side's return point, told from the calls, which of them were granted, and where the side stood.
 use Rattle.std.proofs.Math.Path.{◌≡◌, refl, sym, ap}
 use Rattle.std.proofs.Common.{◌∙◌}
-use Rattle.std.specs.Prelude.{Bool, true, false, List, ◌⊎◌, ℕ}
-use Rattle.std.proofs.Math.Option.{Option, none, some}
+use Rattle.std.specs.Prelude.{Bool, true, false, List, ◌⊎◌, ℕ, Option, None, Some}
 use Rattle.std.proofs.Math.Logic.{inl, inr}
 use native.Mathlib.Omega.{arith}
 use Rattle.names.specs.If.{if}
@@ -26,23 +25,23 @@ module _ {A : Type 0} (granted : Calls → Call → Bool) (marked : A → Bool) 
 
   -- the marked state that the side last left by a message since the last granted rollback (or the opening), or none
   unfoldable pub Point : Calls → Option A → Type 0
-  Point h none = (e : Calls) (c : Call) (x : A) → Made e c h → Left e c x → Since e c h → ⊥
-  Point h (some x) = (e : Calls) × (c : Call) × Made e c h × Left e c x × Since e c h
+  Point h None = (e : Calls) (c : Call) (x : A) → Made e c h → Left e c x → Since e c h → ⊥
+  Point h (Some x) = (e : Calls) × (c : Call) × Made e c h × Left e c x × Since e c h
       × ((f : Calls) (d : Call) (y : A) → Made f d h → Made e c f → Left f d y → ⊥)
 
-  pub point-opening : Point opening none
+  pub point-opening : Point opening None
   unfolding Point Made
   point-opening e c x m l s = m
 
   -- a call that is no granted rollback, and leaves no marked state
   pub point-same : (h : Calls) (c : Call) (p : Option A) → (Back h c → ⊥) → ((y : A) → Left h c y → ⊥) → Point h p → Point (h then c) p
   unfolding Point Made Since
-  point-same h c none b l p = go
+  point-same h c None b l p = go
     where
       go : (e : Calls) (d : Call) (x : A) → Made e d (h then c) → Left e d x → Since e d (h then c) → ⊥
       go e d x (inl q) k s = l x (rw (← q.0, ← q.1) k)
       go e d x (inr m) k s = p e d x m k (λ f a n o. s f a (inr n) o)
-  point-same h c (some x) b l p = (p.0, p.1, inr p.2, p.3, since, only)
+  point-same h c (Some x) b l p = (p.0, p.1, inr p.2, p.3, since, only)
     where
       since : (f : Calls) (a : Call) → Made f a (h then c) → Made p.0 p.1 f → Back f a → ⊥
       since f a (inl q) o g = b (rw (← q.0, ← q.1) g)
@@ -52,7 +51,7 @@ module _ {A : Type 0} (granted : Calls → Call → Bool) (marked : A → Bool) 
       only f a y (inl q) o g = l y (rw (← q.0, ← q.1) g)
       only f a y (inr n) o g = p.5 f a y n o g
 
-  pub point-left : (h : Calls) (c : Call) (x : A) → Left h c x → Point (h then c) (some x)
+  pub point-left : (h : Calls) (c : Call) (x : A) → Left h c x → Point (h then c) (Some x)
   unfolding Point Made Since
   point-left h c x l = (h, c, inl (refl, refl), l, (λ f a n o _. none-later f a n o), (λ f a y n o _. none-later f a n o))
     where
@@ -66,7 +65,7 @@ module _ {A : Type 0} (granted : Calls → Call → Bool) (marked : A → Bool) 
   clash h rollback x l g = l
 
   -- a granted rollback clears it
-  pub point-back : (h : Calls) (c : Call) → Back h c → Point (h then c) none
+  pub point-back : (h : Calls) (c : Call) → Back h c → Point (h then c) None
   unfolding Point Made Since
   point-back h c b = go
     where
@@ -97,10 +96,10 @@ module _ {A : Type 0} (granted : Calls → Call → Bool) (marked : A → Bool) 
   no-left h rollback y g l = l
 
   -- a granted message, at a state that is marked or not
-  pub point-message : (h : Calls) (n : List ℕ) (p : Option A) → granted h (message n) ≡ true → Point h p → Point (h then message n) (if (marked (at h)) (some (at h)) p)
+  pub point-message : (h : Calls) (n : List ℕ) (p : Option A) → granted h (message n) ≡ true → Point h p → Point (h then message n) (if (marked (at h)) (Some (at h)) p)
   point-message h n p g k = go (marked (at h)) refl
     where
-      go : (b : Bool) → marked (at h) ≡ b → Point (h then message n) (if b (some (at h)) p)
+      go : (b : Bool) → marked (at h) ≡ b → Point (h then message n) (if b (Some (at h)) p)
       go true e = point-left h (message n) (at h) (message-left h n (at h) g refl e)
       go false e = point-same h (message n) p (message-no-back h n) (λ y l. plain h n y e l) k
 
@@ -116,12 +115,12 @@ module _ {A : Type 0} (granted : Calls → Call → Bool) (marked : A → Bool) 
   -- there is one
   pub point_one : (h : Calls) (p q : Option A) → Point h p → Point h q → p ≡ q
   unfolding Point
-  point_one h none none p q = refl
-  point_one h none (some y) p q = absurd (p q.0 q.1 y q.2 q.3 q.4)
-  point_one h (some x) none p q = absurd (q p.0 p.1 x p.2 p.3 p.4)
-  point_one h (some x) (some y) p q = go (made_tri p.0 p.1 q.0 q.1 h p.2 q.2)
+  point_one h None None p q = refl
+  point_one h None (Some y) p q = absurd (p q.0 q.1 y q.2 q.3 q.4)
+  point_one h (Some x) None p q = absurd (q p.0 p.1 x p.2 p.3 p.4)
+  point_one h (Some x) (Some y) p q = go (made_tri p.0 p.1 q.0 q.1 h p.2 q.2)
     where
-      go : ((p.0 ≡ q.0) × (p.1 ≡ q.1)) ⊎ (Made p.0 p.1 q.0 ⊎ Made q.0 q.1 p.0) → some x ≡ some y
-      go (inl e) = ap some (left_at q.0 q.1 x y (rw (e.0, e.1) at p.3) q.3)
+      go : ((p.0 ≡ q.0) × (p.1 ≡ q.1)) ⊎ (Made p.0 p.1 q.0 ⊎ Made q.0 q.1 p.0) → Some x ≡ Some y
+      go (inl e) = ap Some (left_at q.0 q.1 x y (rw (e.0, e.1) at p.3) q.3)
       go (inr (inl m)) = absurd (p.5 q.0 q.1 y q.2 m q.3)
       go (inr (inr m)) = absurd (q.5 p.0 p.1 x p.2 m p.3)

@@ -1,16 +1,15 @@
 -- What each call answers (r) and leaves in the lent buffer (left), for all slices and numbers that it can be given.
-use Rattle.std.specs.Prelude.{◌≡◌, List, ℕ, leb, eqb, length}
+use Rattle.std.specs.Prelude.{◌≡◌, List, ℕ, leb, length, Ok, Err}
 use Rattle.names.specs.If.{if}
-use Rattle.aut.specs.declared.Read.{Read}
-use Rattle.aut.specs.File.{file}
+use Rattle.aut.specs.File.{Read, file}
 use Rattle.writer.specs.Written.{too_long, written}
 use Rattle.writer.specs.Written as writer
-use Rattle.verdict.specs.declared.Verdict.{Verdict}
+use Rattle.verdict.specs.Said.{Verdict}
 use Rattle.verdict.specs.Answer.{Says}
-use Rattle.session.specs.declared.Answer.{Answer}
+use Rattle.session.specs.Said.{Answer}
 use Rattle.session.specs.Answers.{messaged, rolled_back}
 use Rattle.session.specs.Opening as session
-use Rattle.report.specs.declared.Reported.{Reported}
+use Rattle.report.specs.Said.{Reported}
 use Rattle.report.specs.Reports.{Reports}
 use Rattle.packing.specs.Value.{value_bytes, unpacked}
 use Rattle.packing.specs.Value as packing
@@ -18,11 +17,13 @@ use Rattle.host.specs.Numbers.{refused_number, written_number, verdict_number, r
 
 -- 1 to 11 of the file, then 12; or the length of a value
 abbrev pub read_number : Read → List ℕ → ℕ
-read_number r out = if (eqb r.refusal.number 0) (if (leb value_bytes (length out)) value_bytes (refused_number too_long)) (refused_number r.refusal)
+read_number (Ok b) out = if (leb value_bytes (length out)) value_bytes (refused_number too_long)
+read_number (Err f) out = refused_number f
 
 -- "No refusal writes to a lent buffer"; else the value's bytes stand first, and the bytes after them stay
 abbrev pub read_left : Read → List ℕ → List ℕ
-read_left r out = if (eqb r.refusal.number 0) (packing.left r.value out) out
+read_left (Ok b) out = packing.left b out
+read_left (Err f) out = out
 
 pub record Reads (text out : List ℕ) (r : ℕ) (left : List ℕ) : Type 0 where
   pub says : r ≡ read_number (file text) out

@@ -1,7 +1,9 @@
 -- Buffers of the sizes that include/tyttmose.h names are long enough: a call that is lent one is not refused with 12.
-use Rattle.std.specs.Prelude.{◌≡◌, refl, Bool, true, false, List, ◌⊎◌, ℕ, ◌≤◌, ◌*◌, length}
+use Rattle.std.specs.Prelude.{◌≡◌, refl, Ok, Err, Bool, true, false, List, ◌⊎◌, ℕ, ◌≤◌, ◌*◌, length}
 use Rattle.std.proofs.Common.{◌∙◌, ap, inl, inr, arith, le-leb}
+use Rattle.behaviour.specs.declared.Behaviour.{Behaviour}
 use Rattle.behaviour.specs.declared.Refusal.{Refusal}
+use Rattle.behaviour.specs.Refusals.{row_number}
 use Rattle.behaviour.specs.Limits.{most_bytes}
 use Rattle.behaviour.specs.Sound.{sound}
 use Rattle.behaviour.specs.SoundLaws.{parts}
@@ -13,12 +15,10 @@ use Rattle.stands.specs.Cases.{bytes}
 use Rattle.writer.specs.Text.{text}
 use Rattle.writer.specs.Lengths.{text-few}
 use Rattle.roundtrip.specs.Theorems.{read-sound}
-use Rattle.verdict.specs.declared.Verdict.TheVariants as verdict
 use Rattle.verdict.specs.Answer.{Unsound, TooLong, Says}
 use Rattle.report.specs.RunText.{run_text}
 use Rattle.report.specs.Output.{judged_text, Prints, client-refused, server-refused, both-judged}
 use Rattle.report.specs.Followed.{stuck_text}
-use Rattle.report.proofs.Accepted.{accepted}
 use Rattle.report.proofs.Few.{run-few}
 use Rattle.report.proofs.Following.{followed-run}
 use Rattle.report.proofs.Sizes.{word-length, compliant-length, stuck-length}
@@ -40,12 +40,12 @@ enough-text value out r left h w e = go (sound (unpacked value)) refl
     go false q = let n : r ≡ 13 * 4294967296 = w.says ∙ rw q in omega (arith, n, e)
 
 -- TYTTMOSE_RUN_SIZE
-pub enough-run : (c s run left : List ℕ) (f : Refusal) → 12100 ≤ length run → Says (unpacked c) (unpacked s) run (verdict.Refused f) left → f.number ≡ 12 → ⊥
+pub enough-run : (c s run left : List ℕ) (f : Refusal) → 12100 ≤ length run → Says (unpacked c) (unpacked s) run (Err f) left → row_number f.reason ≡ 12 → ⊥
 unfolding Says
 enough-run c s run left f h p e = go p.why
   where
     go : Unsound (unpacked c) (unpacked s) f ⊎ TooLong (unpacked c) (unpacked s) run f → ⊥
-    go (inl u) = omega (arith, e, ap (λ (x : Refusal). x.number) u.is)
+    go (inl u) = omega (arith, e, ap (λ (x : Refusal). row_number x.reason) u.is)
     go (inr t) =
         omega (
           arith,
@@ -55,23 +55,23 @@ enough-run c s run left f h p e = go p.why
         )
 
 -- TYTTMOSE_REPORT_SIZE: a run's text has 26 bytes a step and two lines before
-judged-few : (f g : List ℕ) → (file f).refusal.number ≡ 0 → (file g).refusal.number ≡ 0 → (j : Judgement) → Judged (file f).value (file g).value j
-    → length (judged_text (file f).value (file g).value j) ≤ 327680
+judged-few : (f g : List ℕ) (c s : Behaviour) → file f ≡ Ok c → file g ≡ Ok s → (j : Judgement) → Judged c s j
+    → length (judged_text c s j) ≤ 327680
 unfolding judged_text run_text stuck_text bytes Judged runs.IsVerdict
-judged-few f g a b (compliant k) j = omega (arith, compliant-length k)
-judged-few f g a b (stuck e r) j =
-    let x = read-sound f (file f).value (accepted f a) in
-    let y = read-sound g (file g).value (accepted g b) in
-    let n = run-few (file f).value (file g).value e r x.0 y.0 x.1 y.1 j in
-    let l = stuck-length (file f).value (alphabet (file f).value (file g).value) e r in
-    let t = followed-run (file f).value (file g).value r 0 j.0.0.node j.0.0.leads in
+judged-few f g c s a b (compliant k) j = omega (arith, compliant-length k)
+judged-few f g c s a b (stuck e r) j =
+    let x = read-sound f c a in
+    let y = read-sound g s b in
+    let n = run-few c s e r x.0 y.0 x.1 y.1 j in
+    let l = stuck-length c (alphabet c s) e r in
+    let t = followed-run c s r 0 j.0.0.node j.0.0.leads in
     omega (arith, n, rw t at l)
 
 pub printed_few : (f g w : List ℕ) → Prints f g w → length w ≤ 327680
 unfolding bytes
-printed_few f g w (client-refused n e) = omega (arith, ap length e, word-length (bytes "client") (file f).refusal.number (file f).refusal.place)
-printed_few f g w (server-refused a n e) = omega (arith, ap length e, word-length (bytes "server") (file g).refusal.number (file g).refusal.place)
-printed_few f g w (both-judged a b j h e) = omega (arith, ap length e, judged-few f g a b j h)
+printed_few f g w (client-refused x n e) = omega (arith, ap length e, word-length (bytes "client") (row_number x.reason) x.place)
+printed_few f g w (server-refused a x n e) = omega (arith, ap length e, word-length (bytes "server") (row_number x.reason) x.place)
+printed_few f g w (both-judged c s a b j h e) = omega (arith, ap length e, judged-few f g c s a b j h)
 
 pub enough-report : (f g out : List ℕ) (r : ℕ) (left : List ℕ) → 327680 ≤ length out → Texts f g out r left → refusal_in r ≡ 12 → ⊥
 enough-report f g out r left h t e =

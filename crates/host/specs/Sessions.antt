@@ -1,20 +1,19 @@
 -- A session that a host keeps as a number: no number that is no stand of the pair passes, and over any calls it meets demand 3.
 use Rattle.std.proofs.Math.Path.{◌≡◌, refl, ap}
 use Rattle.std.proofs.Common.{◌∙◌, subst, arith, ne_eqb}
-use Rattle.std.specs.Prelude.{Bool, List, ℕ, ◌<◌, eqb}
+use Rattle.std.specs.Prelude.{Bool, List, ℕ, ◌<◌, eqb, Option, None, Some, Result, Err, Ok, ⊤}
 use Rattle.std.proofs.Math.Bool.{true, false}
-use Rattle.std.proofs.Math.Option.{Option, none, some}
 use Rattle.names.specs.If.{if}
+use Rattle.behaviour.specs.declared.Reason.{Reason}
+use Rattle.behaviour.specs.declared.Reason.TheVariants as reason
 use Rattle.behaviour.specs.declared.Behaviour.{Behaviour}
 use Rattle.behaviour.specs.declared.Refusal.{Refusal}
-use Rattle.behaviour.specs.Refusals.{refusal}
+use Rattle.behaviour.specs.Refusals.{row_number, refusal}
 use Rattle.behaviour.specs.SoundLaws.{Sized, parts, mark-below}
 use Rattle.stands.specs.declared.ClientState.{ClientState}
 use Rattle.stands.specs.declared.ServerState.{ServerState}
-use Rattle.stands.specs.declared.ClientPoint.{ClientPoint}
-use Rattle.stands.specs.declared.ClientPoint.TheVariants as client
-use Rattle.stands.specs.declared.ServerPoint.{ServerPoint}
-use Rattle.stands.specs.declared.ServerPoint.TheVariants as server
+use Rattle.stands.specs.Points.{ClientPoint}
+use Rattle.stands.specs.Points.{ServerPoint}
 use Rattle.stands.specs.declared.Stand.{Stand}
 use Rattle.stands.specs.Stands.{said}
 use Rattle.stands.specs.Stands as rules
@@ -25,8 +24,7 @@ use Rattle.history.specs.Calls.{Call, message, rollback, Calls, opening, ◌then
 use Rattle.history.specs.Demand.{Seen, Demand}
 use Rattle.history.specs.Played.{has, or_else, session, seen}
 use Rattle.session.specs.declared.Session.{Session}
-use Rattle.session.specs.declared.Answer.{Answer}
-use Rattle.session.specs.declared.Answer.TheVariants as answer
+use Rattle.session.specs.Said.{Answer}
 use Rattle.session.specs.Answers.{fault, stepped, named, messaged, rolled_back}
 use Rattle.session.specs.Opening.{Begins}
 use Rattle.session.specs.Sides.{client_side, server_side}
@@ -42,15 +40,15 @@ use Rattle.host.specs.Parts.{refusal_in, value_in, refused-back, session-back}
 
 -- 15: "stand with a state out of range, or a return point not marked", once both values are sound
 module _ (c s : List ℕ) (n r : ℕ) (sounds : BothSound (unpacked c) (unpacked s)) (off : is_stand (unpacked c) (unpacked s) (unpacked_stand n) ≡ false) where
-  faulty : fault (unpacked c) (unpacked s) (unpacked_stand n) ≡ 15
+  faulty : fault (unpacked c) (unpacked s) (unpacked_stand n) ≡ Err reason.NoStand
   unfolding fault
   faulty = rw (sounds.client, sounds.server, off)
 
-  pub no-session-message : (name : List ℕ) → Messages c s n name r → r ≡ refused_number (refusal 15 0)
+  pub no-session-message : (name : List ℕ) → Messages c s n name r → r ≡ refused_number (refusal reason.NoStand 0)
   unfolding messaged
   no-session-message name m = rw faulty at m
 
-  pub no-session-rollback : RollsBack c s n r → r ≡ refused_number (refusal 15 0)
+  pub no-session-rollback : RollsBack c s n r → r ≡ refused_number (refusal reason.NoStand 0)
   unfolding rolled_back
   no-session-rollback m = rw faulty at m
 
@@ -58,16 +56,16 @@ module _ (c s : List ℕ) (n r : ℕ) (sounds : BothSound (unpacked c) (unpacked
 module _ (c s : Behaviour) (k : Sized c) (l : Sized s) (sounds : BothSound c s) where
   client-below : (g : ClientPoint) → Marked c.marks (client_held g) → ClientBelow g
   unfolding Marked
-  client-below client.Nowhere m x e = absurd (let z : ◌≡◌ {A = ℕ} 0 1 = cc in omega arith)
-  client-below (client.To y) m x e =
+  client-below None m x e = absurd (let z : ◌≡◌ {A = ℕ} 0 1 = cc in omega arith)
+  client-below (Some y) m x e =
       let p = parts c sounds.client in
       let f : y ≡ x = cc in
       omega (arith, ap (λ (v : ClientState). v.0) f, mark-below c k p y.0 m, p.most-states)
 
   server-below : (g : ServerPoint) → Marked s.marks (server_held g) → ServerBelow g
   unfolding Marked
-  server-below server.Nowhere m x e = absurd (let z : ◌≡◌ {A = ℕ} 0 1 = cc in omega arith)
-  server-below (server.To y) m x e =
+  server-below None m x e = absurd (let z : ◌≡◌ {A = ℕ} 0 1 = cc in omega arith)
+  server-below (Some y) m x e =
       let p = parts s sounds.server in
       let f : y ≡ x = cc in
       omega (arith, ap (λ (v : ServerState). v.0) f, mark-below s l p y.0 m, p.most-states)
@@ -80,17 +78,17 @@ module _ (c s : Behaviour) (k : Sized c) (l : Sized s) (sounds : BothSound c s) 
     serverpoint = server-below p.serverpoint o.serverpoint;
   }
 
-  no-fault-small : (p : Stand) → fault c s p ≡ 0 → Small p
+  no-fault-small : (p : Stand) → fault c s p ≡ Ok tt → Small p
   unfolding fault
   no-fault-small p e = go (is_stand c s p) refl (rw (sounds.client, sounds.server) at e)
     where
-      go : (t : Bool) → is_stand c s p ≡ t → ◌≡◌ {A = ℕ} (if t 0 15) 0 → Small p
+      go : (t : Bool) → is_stand c s p ≡ t → ◌≡◌ {A = Result ⊤ Reason} (if t (Ok tt) (Err reason.NoStand)) (Ok tt) → Small p
       go true q f = small p (stand-sound c s p q)
-      go false q f = absurd (omega arith)
+      go false q f = absurd (let z : ◌≡◌ {A = ℕ} 0 1 = cc in omega arith)
 
 -- the session that a host takes from the answer to a call, if it is granted
 abbrev pub session_in : ℕ → Option ℕ
-session_in r = if (eqb (refusal_in r) 0) (some (value_in r)) none
+session_in r = if (eqb (refusal_in r) 0) (Some (value_in r)) None
 
 -- what a call on the session n hands back, over the pair of the bytes c and s
 abbrev pub next_number : List ℕ → List ℕ → ℕ → Call → Option ℕ
@@ -98,11 +96,11 @@ next_number c s n k = session_in (session_number (answered (unpacked c) (unpacke
 
 -- a refusal of a call is seen as one
 abbrev Told : Answer → Type 0
-Told a = (f : Refusal) → a ≡ answer.Refused f → (0 < f.number) × (f.place < 65536)
+Told a = (f : Refusal) → a ≡ Err f → (0 < row_number f.reason) × (f.place < 65536)
 
-stepped-told : (k : ℕ) → 0 < k → (o : Option Stand) → Told (stepped k o)
-stepped-told k l none f e = let g : refusal k 0 ≡ f = cc in (subst (λ (x : Refusal). 0 < x.number) g l, subst (λ (x : Refusal). x.place < 65536) g (omega arith))
-stepped-told k l (some p) f e = absurd (let z : ◌≡◌ {A = ℕ} 0 1 = cc in omega arith)
+stepped-told : (k : Reason) → 0 < row_number k → (o : Option Stand) → Told (stepped k o)
+stepped-told k l None f e = let g : refusal k 0 ≡ f = cc in (subst (λ (x : Refusal). 0 < row_number x.reason) g l, subst (λ (x : Refusal). x.place < 65536) g (omega arith))
+stepped-told k l (Some p) f e = absurd (let z : ◌≡◌ {A = ℕ} 0 1 = cc in omega arith)
 
 module _ (c s : List ℕ) (z : Session) (b : Begins (unpacked c) (unpacked s) z) where
   -- kept as a session, and kept as a number
@@ -110,37 +108,37 @@ module _ (c s : List ℕ) (z : Session) (b : Begins (unpacked c) (unpacked s) z)
   held = session (next (unpacked c) (unpacked s)) z
 
   abbrev pub numbered : Calls → ℕ
-  numbered = session (next_number c s) (value_in (session_number (answer.Next z)))
+  numbered = session (next_number c s) (value_in (session_number (Ok z)))
 
   abbrev says : Calls → Call → Answer
   says h k = answered (unpacked c) (unpacked s) (held h) k
 
-  faults : (h : Calls) → fault (unpacked c) (unpacked s) (held h).stand ≡ 0
+  faults : (h : Calls) → fault (unpacked c) (unpacked s) (held h).stand ≡ Ok tt
   faults = faultless (unpacked c) (unpacked s) z b
 
-  back : (h : Calls) → (refusal_in (session_number (answer.Next (held h))) ≡ 0) × (session_of (value_in (session_number (answer.Next (held h)))) ≡ held h)
+  back : (h : Calls) → (refusal_in (session_number (Ok (held h))) ≡ 0) × (session_of (value_in (session_number (Ok (held h)))) ≡ held h)
   back h = session-back (held h) (no-fault-small (unpacked c) (unpacked s) (unpacked-sized c) (unpacked-sized s) b.sounds (held h).stand (faults h))
 
   says-told : (h : Calls) (k : Call) → Told (says h k)
   unfolding answered messaged rolled_back
-  says-told h (message n) = rw (faults h) (stepped-told 16 (omega arith) (said (unpacked c) (unpacked s) (held h).stand (named n)))
-  says-told h rollback = rw (faults h) (stepped-told 17 (omega arith) (rules.rollback (held h).stand))
+  says-told h (message n) = rw (faults h) (stepped-told reason.MessageNotPossible (omega arith) (said (unpacked c) (unpacked s) (held h).stand (named n)))
+  says-told h rollback = rw (faults h) (stepped-told reason.RollbackNotPossible (omega arith) (rules.rollback (held h).stand))
 
   -- what follows is by the answer a to a call on the session y, whose number is n
   module _ (n : ℕ) (y : Session) (e : session_of n ≡ y) where
     abbrev Back : Answer → Type 0
-    Back a = (refusal_in (session_number (answer.Next (or_else y (handed_back a)))) ≡ 0) × (session_of (value_in (session_number (answer.Next (or_else y (handed_back a))))) ≡ or_else y (handed_back a))
+    Back a = (refusal_in (session_number (Ok (or_else y (handed_back a)))) ≡ 0) × (session_of (value_in (session_number (Ok (or_else y (handed_back a))))) ≡ or_else y (handed_back a))
 
-    refused-seen : (f : Refusal) → 0 < f.number → f.place < 65536 → eqb (refusal_in (refused_number f)) 0 ≡ false
+    refused-seen : (f : Refusal) → 0 < row_number f.reason → f.place < 65536 → eqb (refusal_in (refused_number f)) 0 ≡ false
     refused-seen f l m = ne_eqb (refusal_in (refused_number f)) 0 (λ d. omega (arith, (refused-back f m).0))
 
     handed : (a : Answer) → Told a → Back a → session_of (or_else n (session_in (session_number a))) ≡ or_else y (handed_back a)
-    handed (answer.Next x) t d = rw d.0 d.1
-    handed (answer.Refused f) t d = let h = t f refl in rw (refused-seen f h.0 h.1) e
+    handed (Ok x) t d = rw d.0 d.1
+    handed (Err f) t d = let h = t f refl in rw (refused-seen f h.0 h.1) e
 
     granted : (a : Answer) → Told a → Back a → has (session_in (session_number a)) ≡ has (handed_back a)
-    granted (answer.Next x) t d = rw d.0
-    granted (answer.Refused f) t d = let h = t f refl in rw (refused-seen f h.0 h.1)
+    granted (Ok x) t d = rw d.0
+    granted (Err f) t d = let h = t f refl in rw (refused-seen f h.0 h.1)
 
   -- the number holds the session, after any calls
   pub same-session : (h : Calls) → session_of (numbered h) ≡ held h
@@ -159,7 +157,7 @@ module _ (c s : List ℕ) (z : Session) (b : Begins (unpacked c) (unpacked s) z)
 
   -- what is seen of a session that the host keeps as a number
   abbrev pub watched_number : Seen ClientState ServerState
-  watched_number = seen (next_number c s) (value_in (session_number (answer.Next z))) (λ n. at (session_of n))
+  watched_number = seen (next_number c s) (value_in (session_number (Ok z))) (λ n. at (session_of n))
 
   same_seen : watched_number ≡ watched (unpacked c) (unpacked s) z
   same_seen = λ i. record {

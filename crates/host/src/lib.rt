@@ -3,111 +3,68 @@
 #![tactic(auto)]
 
 ghost use Rattle.std.specs.Prelude.{◌≡◌};
-ghost use Rattle.host.specs.Numbers.{refused_number, written_number, verdict_number, reported_number, session_number, session_of};
+ghost use Rattle.host.specs.Numbers.{refused_number, judgement_number, session_number, session_of};
 ghost use Rattle.host.specs.Calls.{Reads, Writes, Judges, Opens, Messages, RollsBack, Texts};
 
-use behaviour::Refusal;
-use report::Reported;
-use session::{Answer, Session};
-use verdict::Verdict;
-use writer::Written;
-
-fn wide_byte(x: u8) -> u64
-    ensures { result ≡ x }
-{
-    x as u64
-}
-
-fn wide_place(x: u16) -> u64
-    ensures { result ≡ x }
-{
-    x as u64
-}
-
-fn wide_number(x: u32) -> u64
-    ensures { result ≡ x }
-{
-    x as u64
-}
+use behaviour::{Reason, Refusal};
+use session::Session;
+use verdict::Judgement;
 
 // A refusal as an answer: its number above its place.
+// Kept: no `From` for this answer and the two below, since none of their types is this crate's, and the language asks that one is.
 fn refused(f: Refusal) -> u64
     ensures { result ≡ refused_number f }
 {
-    let number = f.number;
-    let place = f.place;
-    wide_byte(number) * 4294967296 + wide_place(place)
+    u64::from(f.reason.number()) * 4294967296 + u64::from(f.place)
 }
 
-fn written_number(w: Written) -> u64
-    ensures { result ≡ written_number w }
+// What is judged, as an answer: the cause above the run's length, or the number of stands.
+fn judgement_number(judged: Judgement) -> u64
+    ensures { result ≡ judgement_number judged }
 {
-    match w {
-        Written::Bytes(n) => wide_place(n),
-        Written::Refused(f) => refused(f),
-    }
-}
-
-fn verdict_number(v: Verdict) -> u64
-    ensures { result ≡ verdict_number v }
-{
-    match v {
-        Verdict::Compliant(k) => wide_place(k),
-        Verdict::Stuck(e, n) => wide_byte(e) * 65536 + wide_place(n),
-        Verdict::Refused(f) => refused(f),
-    }
-}
-
-fn reported_number(a: Reported) -> u64
-    ensures { result ≡ reported_number a }
-{
-    match a {
-        Reported::Bytes(n) => wide_number(n),
-        Reported::Refused(f) => refused(f),
+    match judged {
+        Judgement::Compliant(stands) => u64::from(stands),
+        Judgement::Stuck(cause, length) => u64::from(cause) * 65536 + u64::from(length),
     }
 }
 
 fn session_of(n: u32) -> Session
     ensures { result ≡ session_of n }
 {
-    let stand = packing::unpack_stand(n);
-    Session { stand }
+    Session {
+        stand: packing::unpack_stand(n),
+    }
 }
 
-fn session_number(a: Answer) -> u64
-    ensures { result ≡ session_number a }
+fn session_number(answer: Result<Session, Refusal>) -> u64
+    ensures { result ≡ session_number answer }
 {
-    match a {
-        Answer::Next(z) => wide_number(packing::pack_stand(z.stand)),
-        Answer::Refused(f) => refused(f),
-    }
+    answer.map_or_else(refused, |z| u64::from(packing::pack_stand(z.stand)))
 }
 
 pub fn tyttmose_read(text: &[u8], value: &mut [u8]) -> u64
     ensures { Reads text.now value.old result value.new }
 {
-    let r = aut::read_file(text);
-    let f = r.refusal;
-    if f.number != 0 {
-        return refused(f);
+    match aut::read_file(text) {
+        Ok(b) => packing::pack(b, value)
+            .ok_or(Reason::LongerThanLent.at(0))
+            // Kept: a cast, since the library has no `From` between the two, and no number of bytes is too large.
+            .map_or_else(refused, |bytes| bytes as u64),
+        Err(f) => refused(f),
     }
-    let b = r.value;
-    if packing::pack(b, value) {
-        return 982;
-    }
-    refused(behaviour::refuse(12, 0))
 }
 
 pub fn tyttmose_write(value: &[u8], text: &mut [u8]) -> u64
     ensures { Writes value.now text.old result text.new }
 {
-    written_number(writer::write(packing::unpack(value), text))
+    writer::write(packing::unpack(value), text).map_or_else(refused, u64::from)
 }
 
 pub fn tyttmose_verdict(client: &[u8], server: &[u8], run: &mut [u8]) -> u64
     ensures { Judges client.now server.now run.old result run.new }
 {
-    verdict_number(verdict::judge(packing::unpack(client), packing::unpack(server), run))
+    let judged = verdict::judge(packing::unpack(client), packing::unpack(server), run);
+    judged.map_or_else(refused, judgement_number)
 }
 
 pub fn tyttmose_open(client: &[u8], server: &[u8]) -> u64
@@ -133,5 +90,5 @@ pub fn tyttmose_rollback(client: &[u8], server: &[u8], session: u32) -> u64
 pub fn tyttmose_text(client: &[u8], server: &[u8], text: &mut [u8]) -> u64
     ensures { Texts client.now server.now text.old result text.new }
 {
-    reported_number(report::report(client, server, text))
+    report::report(client, server, text).map_or_else(refused, u64::from)
 }

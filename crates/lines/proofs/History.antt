@@ -1,5 +1,5 @@
 -- Calls on a lent record give the same history as the calls by value, and so meet demand 3.
-use Rattle.std.specs.Prelude.{◌≡◌, refl}
+use Rattle.std.specs.Prelude.{◌≡◌, refl, Ok, Err}
 use Rattle.std.proofs.Math.Path.{sym, ap}
 use Rattle.std.proofs.Common.{◌∙◌, subst}
 use Rattle.behaviour.specs.declared.Behaviour.{Behaviour}
@@ -7,24 +7,22 @@ use Rattle.history.specs.Calls.{Call, Calls, opening, ◌then◌}
 use Rattle.history.specs.Demand.{Demand}
 use Rattle.history.specs.Played.{has, or_else, session}
 use Rattle.session.specs.declared.Session.{Session}
-use Rattle.session.specs.declared.Answer.{Answer}
-use Rattle.session.specs.declared.Answer.TheVariants as answer
+use Rattle.session.specs.Said.{Answer}
 use Rattle.session.specs.Answers.{named}
 use Rattle.session.specs.Opening.{Begins}
 use Rattle.session.specs.Sides.{client_side, server_side}
 use Rattle.session.specs.Watched.{answered, handed_back, next, watched}
 use Rattle.session.proofs.Demand3.{demand3}
-use Rattle.lines.specs.declared.Kept.{Kept}
-use Rattle.lines.specs.Lent.{kept_of}
+use Rattle.lines.specs.Lent.{Kept, kept_of}
 use Rattle.lines.specs.History.{Line, granted, seen_of}
 
 kept-session : (z : Session) (a : Answer) → (kept_of z a).session ≡ or_else z (handed_back a)
-kept-session z (answer.Next y) = refl
-kept-session z (answer.Refused f) = refl
+kept-session z (Ok y) = refl
+kept-session z (Err f) = refl
 
 kept-granted : (z : Session) (a : Answer) → granted (kept_of z a).outcome ≡ has (handed_back a)
-kept-granted z (answer.Next y) = refl
-kept-granted z (answer.Refused f) = refl
+kept-granted z (Ok y) = refl
+kept-granted z (Err f) = refl
 
 module _ (c s : Behaviour) (z : Session) (l : Line c s z) where
   -- the record holds the session that the calls by value would hand on

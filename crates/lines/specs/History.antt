@@ -1,5 +1,5 @@
 -- A line whose record is lent to any list of calls, and what is seen of it.
-use Rattle.std.specs.Prelude.{◌≡◌, Bool, true, false}
+use Rattle.std.specs.Prelude.{◌≡◌, Bool, true, false, Ok, Err}
 use Rattle.behaviour.specs.declared.Behaviour.{Behaviour}
 use Rattle.stands.specs.declared.ClientState.{ClientState}
 use Rattle.stands.specs.declared.ServerState.{ServerState}
@@ -7,8 +7,7 @@ use Rattle.history.specs.Calls.{Call, Calls, opening, ◌then◌}
 use Rattle.history.specs.Demand.{Seen}
 use Rattle.session.specs.declared.Session.{Session}
 use Rattle.session.specs.Watched.{answered}
-use Rattle.lines.specs.declared.Outcome.{Outcome}
-use Rattle.lines.specs.declared.Outcome.TheVariants as outcome
+use Rattle.lines.specs.Said.{Outcome}
 use Rattle.lines.specs.Lent.{kept_of}
 
 -- a line whose record was opened as z: what it holds after any calls, and what each call says, by what the lent calls ensure
@@ -19,8 +18,8 @@ pub record Line (c s : Behaviour) (z : Session) : Type 0 where
   pub kept : (h : Calls) (k : Call) → kept_of (holds h) (answered c s (holds h) k) ≡ record { session = holds (h then k); outcome = says h k }
 
 abbrev pub granted : Outcome → Bool
-granted outcome.Granted = true
-granted (outcome.Refused f) = false
+granted (Ok _) = true
+granted (Err f) = false
 
 abbrev pub seen_of : {c s : Behaviour} {z : Session} → Line c s z → Seen ClientState ServerState
 seen_of l = record { granted = λ h k. granted (l.says h k); client = λ h. (l.holds h).stand.client; server = λ h. (l.holds h).stand.server }

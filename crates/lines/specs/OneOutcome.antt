@@ -3,10 +3,9 @@ use Rattle.std.specs.Prelude.{◌≡◌}
 use Rattle.std.proofs.Common.{sym, ◌∙◌, ap}
 use Rattle.behaviour.specs.declared.Behaviour.{Behaviour}
 use Rattle.session.specs.declared.Session.{Session}
-use Rattle.session.specs.declared.Answer.{Answer}
+use Rattle.session.specs.Said.{Answer}
 use Rattle.session.specs.OneAnswer.{opens_one}
-use Rattle.lines.specs.declared.Kept.{Kept}
-use Rattle.lines.specs.Lent.{kept_of, OpensInto}
+use Rattle.lines.specs.Lent.{Kept, kept_of, OpensInto}
 
 -- a: what the call by value answers on the record
 pub lent_one : (line : Session) (a : Answer) (k j : Kept) → kept_of line a ≡ k → kept_of line a ≡ j → k ≡ j

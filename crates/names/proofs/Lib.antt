@@ -1,3 +1,2 @@
 -- The laws that the proofs of `names` share.
 pub mod Names
-mod Numbers

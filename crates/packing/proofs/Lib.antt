@@ -1,3 +1,3 @@
 -- The laws that the proofs of `packing` share.
-mod Storing
-mod Reading
+pub mod Names
+pub mod Values

@@ -1,22 +1,20 @@
 -- A stand is what its number unpacks to, and a number is what its stand packs to: each has one other.
-use Rattle.std.specs.Prelude.{◌≡◌, refl, ℕ, ◌+◌, ◌*◌, ◌/◌, ◌%◌, ◌<◌, Bool, true, false, eqb}
+use Rattle.std.specs.Prelude.{◌≡◌, refl, ℕ, ◌+◌, ◌*◌, ◌/◌, ◌%◌, ◌<◌, Bool, true, false, eqb, Some, None}
 use Rattle.std.proofs.Common.{sym, arith, eqb-true, ne_eqb}
 use Rattle.names.specs.If.{if}
 use Rattle.stands.specs.declared.ClientState.{ClientState}
 use Rattle.stands.specs.declared.ServerState.{ServerState}
-use Rattle.stands.specs.declared.ClientPoint.{ClientPoint}
-use Rattle.stands.specs.declared.ClientPoint.TheVariants as client
-use Rattle.stands.specs.declared.ServerPoint.{ServerPoint}
-use Rattle.stands.specs.declared.ServerPoint.TheVariants as server
+use Rattle.stands.specs.Points.{ClientPoint}
+use Rattle.stands.specs.Points.{ServerPoint}
 use Rattle.stands.specs.declared.Stand.{Stand}
 use Rattle.packing.specs.Numbers.{nowhere, client_point_number, server_point_number, client_point_of, server_point_of, packed_stand, unpacked_stand}
 
 -- the state of a return point is below the number of none
 abbrev pub ClientBelow : ClientPoint → Type 0
-ClientBelow g = (x : ClientState) → g ≡ client.To x → x.0 < nowhere
+ClientBelow g = (x : ClientState) → g ≡ Some x → x.0 < nowhere
 
 abbrev pub ServerBelow : ServerPoint → Type 0
-ServerBelow g = (y : ServerState) → g ≡ server.To y → y.0 < nowhere
+ServerBelow g = (y : ServerState) → g ≡ Some y → y.0 < nowhere
 
 -- and the states are bytes, as those of the code are
 pub record Small (p : Stand) : Type 0 where
@@ -34,20 +32,20 @@ module _ (a k : ℕ) (h : a < 256) where
   above = omega arith
 
 client-back : (g : ClientPoint) → ClientBelow g → client_point_of (client_point_number g) ≡ g
-client-back client.Nowhere h = refl
-client-back (client.To x) h = rw (ne_eqb x.0 nowhere (λ e. omega (arith, h x refl)))
+client-back None h = refl
+client-back (Some x) h = rw (ne_eqb x.0 nowhere (λ e. omega (arith, h x refl)))
 
 client-small : (g : ClientPoint) → ClientBelow g → client_point_number g < 256
-client-small client.Nowhere h = omega arith
-client-small (client.To x) h = omega (arith, h x refl)
+client-small None h = omega arith
+client-small (Some x) h = omega (arith, h x refl)
 
 server-back : (g : ServerPoint) → ServerBelow g → server_point_of (server_point_number g) ≡ g
-server-back server.Nowhere h = refl
-server-back (server.To y) h = rw (ne_eqb y.0 nowhere (λ e. omega (arith, h y refl)))
+server-back None h = refl
+server-back (Some y) h = rw (ne_eqb y.0 nowhere (λ e. omega (arith, h y refl)))
 
 server-small : (g : ServerPoint) → ServerBelow g → server_point_number g < 256
-server-small server.Nowhere h = omega arith
-server-small (server.To y) h = omega (arith, h y refl)
+server-small None h = omega arith
+server-small (Some y) h = omega (arith, h y refl)
 
 -- the number is one of 32 bits
 pub packed-below : (p : Stand) → Small p → packed_stand p < 4294967296
@@ -77,14 +75,14 @@ stand-back p b =
 client-there : (n : ℕ) → client_point_number (client_point_of n) ≡ n
 client-there n = go (eqb n nowhere) refl
   where
-    go : (t : Bool) → eqb n nowhere ≡ t → client_point_number (if t client.Nowhere (client.To (record { 0 = n }))) ≡ n
+    go : (t : Bool) → eqb n nowhere ≡ t → client_point_number (if t None (Some (record { 0 = n }))) ≡ n
     go true e = sym (eqb-true n nowhere e)
     go false e = refl
 
 server-there : (n : ℕ) → server_point_number (server_point_of n) ≡ n
 server-there n = go (eqb n nowhere) refl
   where
-    go : (t : Bool) → eqb n nowhere ≡ t → server_point_number (if t server.Nowhere (server.To (record { 0 = n }))) ≡ n
+    go : (t : Bool) → eqb n nowhere ≡ t → server_point_number (if t None (Some (record { 0 = n }))) ≡ n
     go true e = sym (eqb-true n nowhere e)
     go false e = refl
 

@@ -1,12 +1,12 @@
 -- Demands 1 and 2 hold.
-use Rattle.std.specs.Prelude.{take}
-use Rattle.std.proofs.Common.{sym, ap, subst, ◌∙◌, arith}
+use Rattle.std.specs.Prelude.{take, Err}
+use Rattle.std.proofs.Common.{sym, ap, subst, ◌∙◌}
+use Rattle.behaviour.specs.declared.Reason.TheVariants as reason
 use Rattle.aut.specs.File.{accept}
 use Rattle.roundtrip.specs.Theorems.{read-sound, sound-written}
-use Rattle.writer.specs.declared.Written.TheVariants as written
 use Rattle.stands.specs.Stands.{said, cause, pair}
 use Rattle.stands.specs.Stands as rules
-use Rattle.verdict.specs.declared.Verdict.{Verdict}
+use Rattle.verdict.specs.Said.{Verdict}
 use Rattle.verdict.specs.Answer.{Says}
 use Rattle.session.specs.Answers.{named, messaged, rolled_back}
 use Rattle.packing.specs.Value.{value_bytes}
@@ -28,7 +28,7 @@ pub demand_1 : Demand1
 unfolding messaged rolled_back
 demand_1 = record {
   read = reading;
-  write = λ b out left f w. values.writing-refused (writing b out (written.Refused f) left w);
+  write = λ b out left f w. values.writing-refused (writing b out (Err f) left w);
   judge = values.judge-refused;
   report = λ f g out left x h. values.report-refused f g out x left h;
   opening = sessions.open_refused;
@@ -47,13 +47,13 @@ demand_1 = record {
   write_13 = λ b out left r z w. values.writing_13 z (writing b out r left w);
   judge_13 = λ c s run left v y z h. values.judge_13 c s run left v y z h;
   open_13 = sessions.open_13;
-  message_13 = λ c s z name y w. calls.call_13 (λ i. omega arith) y w (called c s z.stand 16 (said c s z.stand (named name)));
-  rollback_13 = λ c s z y w. calls.call_13 (λ i. omega arith) y w (called c s z.stand 17 (rules.rollback z.stand));
+  message_13 = λ c s z name y w. calls.call_13 (λ i. cc) y w (called c s z.stand reason.MessageNotPossible (said c s z.stand (named name)));
+  rollback_13 = λ c s z y w. calls.call_13 (λ i. cc) y w (called c s z.stand reason.RollbackNotPossible (rules.rollback z.stand));
   open_14 = sessions.open_14;
-  message_15 = λ c s z name g h. calls.call_15 (λ i. omega arith) g h (called c s z.stand 16 (said c s z.stand (named name)));
-  rollback_15 = λ c s z g h. calls.call_15 (λ i. omega arith) g h (called c s z.stand 17 (rules.rollback z.stand));
-  message_16 = λ c s z name g h o. sessions.call-off g h o (called c s z.stand 16 (said c s z.stand (named name)));
-  rollback_17 = λ c s z g h o. sessions.call-off g h o (called c s z.stand 17 (rules.rollback z.stand));
+  message_15 = λ c s z name g h. calls.call_15 (λ i. cc) g h (called c s z.stand reason.MessageNotPossible (said c s z.stand (named name)));
+  rollback_15 = λ c s z g h. calls.call_15 (λ i. cc) g h (called c s z.stand reason.RollbackNotPossible (rules.rollback z.stand));
+  message_16 = λ c s z name g h o. sessions.call-off g h o (called c s z.stand reason.MessageNotPossible (said c s z.stand (named name)));
+  rollback_17 = λ c s z g h o. sessions.call-off g h o (called c s z.stand reason.RollbackNotPossible (rules.rollback z.stand));
   write_12 = λ b out left r g w. values.writing_12 g (writing b out r left w);
   judge_12 = λ c s run left v g h y. values.judge_12 c s run left v g h y;
   report_12 = λ f g out left r h. values.report_12 f g out r left h;

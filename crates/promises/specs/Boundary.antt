@@ -1,11 +1,10 @@
 -- Calls from C: what every answer is, and that a refusal is above every grant.
-use Rattle.std.specs.Prelude.{◌≡◌, refl, List, ℕ, ◌<◌, ◌≤◌}
+use Rattle.std.specs.Prelude.{◌≡◌, refl, List, ℕ, ◌<◌, ◌≤◌, Ok, Err}
 use Rattle.std.proofs.Common.{arith}
 use Rattle.behaviour.specs.declared.Behaviour.{Behaviour}
 use Rattle.behaviour.specs.declared.Refusal.{Refusal}
 use Rattle.behaviour.specs.SoundLaws.{parts}
-use Rattle.writer.specs.declared.Written.{Written}
-use Rattle.writer.specs.declared.Written.TheVariants as written
+use Rattle.writer.specs.Said.{Written}
 use Rattle.writer.specs.Lengths as lengths
 use Rattle.writer.specs.Written as writer
 use Rattle.stands.specs.declared.Stand.{Stand}
@@ -53,8 +52,8 @@ pub refused-above : (f : Refusal) → InTable f → 4294967296 ≤ refused_numbe
 refused-above f t = omega (arith, some_number t)
 
 by-writing : (b : Behaviour) (out left : List ℕ) (r : ℕ) (w : Written) → Writing b out w left → r ≡ written_number w → Answered r (left ≡ out)
-by-writing b out left r (written.Bytes n) (values.granted e l) i = granted (omega (arith, i, lengths.text-few b (parts b e).most-lines))
-by-writing b out left r (written.Refused f) w i = let t = values.writing-refused w in refused f i t.0 t.1
+by-writing b out left r (Ok n) (values.granted e l) i = granted (omega (arith, i, lengths.text-few b (parts b e).most-lines))
+by-writing b out left r (Err f) w i = let t = values.writing-refused w in refused f i t.0 t.1
 
 pub c_write : (value out left : List ℕ) (r : ℕ) → Writes value out r left → Answered r (left ≡ out)
 c_write value out left r h =

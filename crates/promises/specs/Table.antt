@@ -1,6 +1,7 @@
 -- "Refusal numbers" of 01: each number with the place that it is given at.
 use Rattle.std.specs.Prelude.{ℕ, ◌+◌, ◌<◌, ◌≤◌}
 use Rattle.behaviour.specs.declared.Refusal.{Refusal}
+use Rattle.behaviour.specs.Refusals.{row_number}
 use Rattle.behaviour.specs.Limits.{most_states, most_lines}
 
 -- "Lines count from 1, the first line being 1": a line after the first, or what follows the last
@@ -29,4 +30,4 @@ pub data Table : ℕ → ℕ → Type 0 where
 
 -- "by a number from 01's table"
 abbrev pub InTable : Refusal → Type 0
-InTable f = Table f.number f.place
+InTable f = Table (row_number f.reason) f.place

@@ -1,6 +1,6 @@
 -- A description that C reads in and writes out again keeps its meaning.
-use Rattle.std.specs.Prelude.{◌≡◌, refl, Bool, true, false, ◌&&◌, List, [], ◌∷◌, ◌++◌, ℕ, zero, suc, ◌*◌, ◌/◌, ◌%◌, ◌^◌, ◌<◌, leb, eqb, length, take, drop}
-use Rattle.std.proofs.Common.{sym, ap, subst, ◌∙◌, arith, eqb-true, eq-eqb, take-append-drop, take_at}
+use Rattle.std.specs.Prelude.{◌≡◌, refl, Bool, true, false, ◌&&◌, List, [], ◌∷◌, ◌++◌, ℕ, zero, suc, ◌*◌, ◌/◌, ◌%◌, ◌^◌, ◌<◌, leb, eqb, length, take, drop, Ok, Err}
+use Rattle.std.proofs.Common.{sym, ap, subst, ◌∙◌, arith, eqb-true, take-append-drop, take_at}
 use Rattle.std.proofs.Math.Seq.{take-append_seam}
 use Rattle.names.specs.If.{if}
 use Rattle.names.specs.Tests.{both}
@@ -9,11 +9,9 @@ use Rattle.behaviour.specs.declared.Message.{Message}
 use Rattle.behaviour.specs.declared.Behaviour.{Behaviour}
 use Rattle.behaviour.specs.Sound.{messages, between, all_between, blank, all_blank}
 use Rattle.behaviour.specs.SoundLaws.{Sized, Parts, parts, between-parts}
-use Rattle.aut.specs.declared.Read.{Read}
 use Rattle.aut.specs.File.{accept, file}
 use Rattle.roundtrip.specs.Theorems.{read-sound, sound-read}
-use Rattle.writer.specs.declared.Written.{Written}
-use Rattle.writer.specs.declared.Written.TheVariants as written
+use Rattle.writer.specs.Said.{Written}
 use Rattle.writer.specs.Text.{text}
 use Rattle.writer.specs.Written as writer
 use Rattle.packing.specs.Value.{value_bytes, packed, unpacked}
@@ -78,33 +76,27 @@ pub value_through : (bytes out left : List ℕ) (r : ℕ) (b : Behaviour) → fi
 unfolding packing.left
 value_through bytes out left r b e h l = go (leb value_bytes (length out)) refl
   where
-    zero_number : eqb (file bytes).refusal.number 0 ≡ true
-    zero_number = eq-eqb (file bytes).refusal.number 0 (ap (λ (i : Read). i.refusal.number) e)
-
-    is : (file bytes).value ≡ b
-    is = ap (λ (i : Read). i.value) e
-
     go : (t : Bool) → leb value_bytes (length out) ≡ t → unpacked (take value_bytes left) ≡ b
     go true f =
         let s = read-sound bytes b e in
-        let w : left ≡ packed b ++ drop value_bytes out = rw (zero_number, f, is) at h.leaves in
+        let w : left ≡ packed b ++ drop value_bytes out = rw (e, f) at h.leaves in
         let i : take value_bytes left ≡ packed b = ap (take value_bytes) w ∙ take_at (packed b) (drop value_bytes out) value_bytes (packed-length b s.1) in
         ap unpacked i ∙ value-back b s.1 (sound-names b (parts b s.0))
-    go false f = absurd (let i : r ≡ refused_number writer.too_long = rw (zero_number, f) at h.says in omega arith)
+    go false f = absurd (let i : r ≡ refused_number writer.too_long = rw (e, f) at h.says in omega arith)
 
-written_back : (b : Behaviour) (out left : List ℕ) (w : Written) (n : ℕ) → Sized b → Writing b out w left → w ≡ written.Bytes n → file (take n left) ≡ accept b
-written_back b out left (written.Bytes m) n z (values.granted e l) i =
+written_back : (b : Behaviour) (out left : List ℕ) (w : Written) (n : ℕ) → Sized b → Writing b out w left → w ≡ Ok n → file (take n left) ≡ accept b
+written_back b out left (Ok m) n z (values.granted e l) i =
     let j : length (text b) ≡ n = cc in
     rw (← j, take-append_seam (text b) (drop (length (text b)) out)) (sound-read b z e).1
-written_back b out left (written.Refused f) n z w i = absurd (let o : ◌≡◌ {A = ℕ} 0 1 = cc in omega arith)
+written_back b out left (Err f) n z w i = absurd (let o : ◌≡◌ {A = ℕ} 0 1 = cc in omega arith)
 
 -- "A description written out reads back as the same behaviour"
-pub reads_back : (b : Behaviour) (out left : List ℕ) (n : ℕ) → Sized b → writer.Writes b out (written.Bytes n) left → file (take n left) ≡ accept b
-reads_back b out left n z w = written_back b out left (written.Bytes n) n z (writing b out (written.Bytes n) left w) refl
+pub reads_back : (b : Behaviour) (out left : List ℕ) (n : ℕ) → Sized b → writer.Writes b out (Ok n) left → file (take n left) ≡ accept b
+reads_back b out left n z w = written_back b out left (Ok n) n z (writing b out (Ok n) left w) refl
 
 by_number : (b : Behaviour) (out left : List ℕ) (w : Written) (q : ℕ) → Sized b → Writing b out w left → q ≡ written_number w → q < 4294967296 → file (take q left) ≡ accept b
-by_number b out left (written.Bytes n) q z w i l = written_back b out left (written.Bytes n) q z w (ap written.Bytes (sym i))
-by_number b out left (written.Refused f) q z w i l = absurd (omega (arith, i, refused-above f (values.writing-refused w).0))
+by_number b out left (Ok n) q z w i l = written_back b out left (Ok n) q z w (ap Ok (sym i))
+by_number b out left (Err f) q z w i l = absurd (omega (arith, i, refused-above f (values.writing-refused w).0))
 
 -- and so what C writes
 pub c_reads_back : (value out left : List ℕ) (q : ℕ) → Writes value out q left → q < 4294967296 → file (take q left) ≡ accept (unpacked value)

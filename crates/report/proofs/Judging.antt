@@ -7,6 +7,7 @@ use Prim.Native.Nat.{ℕ, ◌≤◌, ◌<◌}
 use native.Mathlib.Omega.{arith}
 use lib.ListN.{length, take, drop, length-append}
 use lib.Seq.{take_at, length-take-le}
+use Rattle.std.specs.Prelude.{Ok, Err}
 use Rattle.behaviour.specs.declared.Behaviour.{Behaviour}
 use Rattle.behaviour.specs.declared.Refusal.{Refusal}
 use Rattle.behaviour.specs.Sound.{sound}
@@ -15,10 +16,10 @@ use Rattle.stands.specs.Stands.{alphabet}
 use Rattle.stands.specs.Judgement.{compliant, stuck, Judged}
 use Rattle.stands.specs.Cases.{bytes}
 use Rattle.runs.specs.System as runs
-use Rattle.verdict.specs.declared.Verdict.{Verdict}
-use Rattle.verdict.specs.declared.Verdict.TheVariants as verdict
+use Rattle.verdict.specs.Said.{Verdict}
+use Rattle.verdict.specs.declared.Judgement.TheVariants as verdict
 use Rattle.verdict.specs.Answer.{Says, SaysCompliant, SaysStuck, Unsound, TooLong}
-use Rattle.report.specs.declared.Reported.{Reported}
+use Rattle.report.specs.Said.{Reported}
 use Rattle.report.specs.RunText.{run_text}
 use Rattle.report.specs.Output.{compliant_text, judged_text}
 use Rattle.report.specs.Followed.{stuck_text}
@@ -32,13 +33,13 @@ unfolding stuck_text judged_text run_text bytes Judged runs.IsVerdict
 stuck-text c s e r j = rw (followed-run c s r 0 j.0.0.node j.0.0.leads)
 
 module _ (c s : Behaviour) (run left : List ℕ) (v : Verdict) (h : Says c s run v left) where
-  pub judges_compliant : {n : ℕ} {out e : List ℕ} {r : Reported} → v ≡ verdict.Compliant n → Tells (compliant_text n) out r e → Judges c s out r e
+  pub judges_compliant : {n : ℕ} {out e : List ℕ} {r : Reported} → v ≡ Ok (verdict.Compliant n) → Tells (compliant_text n) out r e → Judges c s out r e
   unfolding Says judged_text
   judges_compliant {n} q t =
       let a : SaysCompliant c s n run left = subst (λ (i : Verdict). Says c s run i left) q h in
       record { judgement = compliant n; judged = a.judged; told = t }
 
-  module _ {e n : ℕ} (q : v ≡ verdict.Stuck e n) where
+  module _ {e n : ℕ} (q : v ≡ Ok (verdict.Stuck e n)) where
     said : SaysStuck c s e n run left
     unfolding Says
     said = subst (λ (i : Verdict). Says c s run i left) q h
@@ -49,7 +50,7 @@ module _ (c s : Behaviour) (run left : List ℕ) (v : Verdict) (h : Says c s run
     pub run-counts : n ≡ length (take n left)
     run-counts = sym (length-take-le n left run-within)
 
-    pub run_short : length run ≡ 12100 → length (take n left) < 99999
+    pub run_short : length run ≡ 12100 → length (take n left) < 65535
     run_short l = omega (arith, said.fits, run-counts)
 
     steps_are : take n left ≡ said.steps
@@ -63,7 +64,7 @@ module _ (c s : Behaviour) (run left : List ℕ) (v : Verdict) (h : Says c s run
     }
 
   -- 13 is not given to sound values, and 12 not where there is room for every run
-  pub judges_all : {A : Type 0} {f : Refusal} → CanJudge c s run → v ≡ verdict.Refused f → A
+  pub judges_all : {A : Type 0} {f : Refusal} → CanJudge c s run → v ≡ Err f → A
   unfolding Says
   judges_all {f = f} k q = go (subst (λ (i : Verdict). Says c s run i left) q h).why
     where

@@ -5,9 +5,6 @@ pub mod Few
 pub mod Following
 pub mod Going
 pub mod Sizes
-pub mod Telling
-pub mod Listing
-pub mod Accepted
 pub mod Judging
 pub mod Reporting
 pub mod Within

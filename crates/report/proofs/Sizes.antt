@@ -8,19 +8,26 @@ use lib.ListN.{length, get_or, length-append}
 use Rattle.names.specs.If.{if}
 use Rattle.behaviour.specs.declared.Behaviour.{Behaviour}
 use Rattle.stands.specs.Cases.{bytes}
-use Rattle.text.specs.Spelling.{label_text, message_label, head_text}
+use Rattle.text.specs.Spelling.{decimal, label_text, message_label, head_text}
 use Rattle.text.specs.Lengths.{decimal-length, label-length, labelled-length, head-length}
 use Rattle.text.specs.Putting.{Short}
 use Rattle.report.specs.RunText.{rbk}
-use Rattle.report.specs.Output.{word_line, compliant_text}
+use Rattle.report.specs.Output.{numbers_text, words_line, word_line, compliant_text}
 use Rattle.report.specs.Followed.{step_label, next_state, next_home, seen_line, followed, stuck_text}
 
+numbers-length : (l : List ℕ) → length (numbers_text l) ≤ length l * 6 + 1
+numbers-length [] = omega arith
+numbers-length (n ∷ l) = let f = decimal-length 4 n in rw (length-append (32 ∷ decimal n)) (omega (arith, numbers-length l))
+
+words-length : (w l : List ℕ) → length (words_line w l) ≤ length w + length l * 6 + 1
+words-length w l = omega (arith, length-append w (numbers_text l), numbers-length l)
+
 pub word-length : (w : List ℕ) (m n : ℕ) → length (word_line w m n) ≤ length w + 13
-word-length w m n = let f = decimal-length 4 m in let g = decimal-length 4 n in simp length-append (omega arith)
+word-length w m n = omega (arith, words-length w (m ∷ n ∷ []))
 
 pub compliant-length : (n : ℕ) → length (compliant_text n) ≤ 20
 unfolding bytes
-compliant-length n = let f = decimal-length 4 n in simp length-append (omega arith)
+compliant-length n = omega (arith, words-length (bytes "compliant") (n ∷ []))
 
 step-length : (b g n : ℕ) → length (step_label b g n) ≤ 9
 step-length b g n = go (eqb b 255)
@@ -50,11 +57,8 @@ stuck-length c names e r =
     omega (arith, length-append w (h ++ f), length-append h f, word-length (115 ∷ 116 ∷ 117 ∷ 99 ∷ 107 ∷ []) e (length r), head-length (length r) (length r + 1), steps-length c names 0 0 0 r)
 
 -- all of them can be put
-pub word-short : (w : List ℕ) (m n : ℕ) → length w ≤ 100 → Short 0 (word_line w m n)
-word-short w m n h = record { ends = omega (arith, word-length w m n) }
+pub words-short : (w l : List ℕ) → length w ≤ 100 → length l ≤ 100 → Short 0 (words_line w l)
+words-short w l h k = record { ends = omega (arith, words-length w l) }
 
-pub compliant-short : (n : ℕ) → Short 0 (compliant_text n)
-compliant-short n = record { ends = omega (arith, compliant-length n) }
-
-pub stuck-short : (c : Behaviour) (names : List ℕ) (e : ℕ) (r : List ℕ) → length r < 99999 → Short 0 (stuck_text c names e r)
+pub stuck-short : (c : Behaviour) (names : List ℕ) (e : ℕ) (r : List ℕ) → length r < 65535 → Short 0 (stuck_text c names e r)
 stuck-short c names e r h = record { ends = omega (arith, stuck-length c names e r) }

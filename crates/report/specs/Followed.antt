@@ -5,6 +5,7 @@ use Rattle.names.specs.If.{if}
 use Rattle.behaviour.specs.declared.Behaviour.{Behaviour}
 use Rattle.stands.specs.Stands.{target, marked, rollback_byte}
 use Rattle.text.specs.Spelling.{label_text, message_label, head_text}
+use Rattle.report.specs.declared.Client.{Client}
 use Rattle.report.specs.RunText.{rbk, step_line}
 use Rattle.report.specs.Output.{word_line}
 
@@ -19,6 +20,13 @@ next_state c b n x home = if (eqb b rollback_byte) home (target c x n)
 -- the state it then goes back to: a marked state that it left; nothing is gone back to twice
 abbrev pub next_home : Behaviour → ℕ → ℕ → ℕ → ℕ
 next_home c b x home = if (eqb b rollback_byte) home (if (marked c x) x home)
+
+-- the client that is followed, after the step b
+abbrev pub stepped : Client → ℕ → Client
+stepped f b = record f {
+  state = next_state f.value.now b (get_or f.names.now b 0) f.state f.home;
+  home = next_home f.value.now b f.state f.home;
+}
 
 -- the line of the step b at the client's state x, k steps being before it
 abbrev pub seen_line : Behaviour → List ℕ → ℕ → ℕ → ℕ → List ℕ

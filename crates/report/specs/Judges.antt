@@ -4,7 +4,7 @@ use Rattle.behaviour.specs.declared.Behaviour.{Behaviour}
 use Rattle.behaviour.specs.SoundLaws.{Sized}
 use Rattle.stands.specs.Judgement.{Judgement, Judged}
 use Rattle.verdict.specs.Answer.{BothSound}
-use Rattle.report.specs.declared.Reported.{Reported}
+use Rattle.report.specs.Said.{Reported}
 use Rattle.report.specs.Output.{judged_text}
 use Rattle.report.specs.Reports.{Tells}
 

@@ -1,14 +1,14 @@
 -- What `report` answers and leaves in the lent buffer.
-use Rattle.std.specs.Prelude.{◌≡◌, List, ◌++◌, ℕ, length, drop}
+use Rattle.std.specs.Prelude.{◌≡◌, List, ◌++◌, ℕ, length, drop, Ok, Err}
 use Rattle.names.specs.If.{if}
-use Rattle.writer.specs.Written.{too_long, room}
-use Rattle.report.specs.declared.Reported.{Reported}
-use Rattle.report.specs.declared.Reported.TheVariants.{Bytes, Refused}
+use Rattle.text.specs.Fronts.{room}
+use Rattle.writer.specs.Written.{too_long}
+use Rattle.report.specs.Said.{Reported}
 use Rattle.report.specs.Output.{Prints}
 
 -- the text's length, or 12 "text […] longer than the lent buffer"
 abbrev pub answer : List ℕ → List ℕ → Reported
-answer text out = if (room text out) (Bytes (length text)) (Refused too_long)
+answer text out = if (room text out) (Ok (length text)) (Err too_long)
 
 -- "No refusal writes to a lent buffer"; else the text stands first, and the bytes after it stay
 abbrev pub left : List ℕ → List ℕ → List ℕ

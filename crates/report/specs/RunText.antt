@@ -1,6 +1,5 @@
 -- "the run as an AUT file spaced as the writer does", for a pair of a client c and a server s.
-use Rattle.std.specs.Prelude.{List, [], ◌∷◌, ◌++◌, ℕ, ◌+◌, eqb, length, get_or}
-use Rattle.std.proofs.Math.Option.{Option, none, some}
+use Rattle.std.specs.Prelude.{List, [], ◌∷◌, ◌++◌, ℕ, ◌+◌, eqb, length, get_or, Option, None, Some}
 use Rattle.names.specs.If.{if}
 use Rattle.behaviour.specs.declared.Behaviour.{Behaviour}
 use Rattle.stands.specs.declared.Stand.{Stand}
@@ -13,8 +12,8 @@ rbk = 114 ∷ 98 ∷ 107 ∷ []
 
 -- "labels as the client sees them (`?name` or `!name`)": by the sign of the client's state before the step
 abbrev pub named : Behaviour → Stand → Option ℕ → List ℕ
-named c p none = []
-named c p (some n) = label_text (message_label (get_or c.signs p.client.0 0) n)
+named c p None = []
+named c p (Some n) = label_text (message_label (get_or c.signs p.client.0 0) n)
 
 -- "a rollback as `rbk`"
 abbrev pub seen : Behaviour → Behaviour → Stand → ℕ → List ℕ
@@ -27,9 +26,9 @@ step_line k w = opening k ++ (w ++ closing (k + 1))
 -- the lines of the steps r from the stand o on, k steps being before them
 unfoldable pub step_lines : Behaviour → Behaviour → ℕ → Option Stand → List ℕ → List ℕ
 step_lines c s k o [] = []
-step_lines c s k none (x ∷ r) = []
-step_lines c s k (some p) (x ∷ r) = step_line k (seen c s p x) ++ step_lines c s (k + 1) (step c s p x) r
+step_lines c s k None (x ∷ r) = []
+step_lines c s k (Some p) (x ∷ r) = step_line k (seen c s p x) ++ step_lines c s (k + 1) (step c s p x) r
 
 -- "`des (0,LENGTH,LENGTH+1)`, then step k as a line"
 unfoldable pub run_text : Behaviour → Behaviour → List ℕ → List ℕ
-run_text c s r = head_text (length r) (length r + 1) ++ step_lines c s 0 (some start) r
+run_text c s r = head_text (length r) (length r + 1) ++ step_lines c s 0 (Some start) r

@@ -1,340 +1,194 @@
 // The verdict program's whole output for two files.
 #![tactic(auto)]
 
-ghost use Rattle.std.specs.Prelude.{◌≡◌, ◌∷◌, [], ◌≤◌, ◌<◌, ◌+◌, length, get_or, take};
+ghost use Rattle.std.specs.Prelude.{◌≡◌, List, ℕ, ◌≤◌, ◌<◌, ◌+◌, length, get_or, take};
 ghost use Rattle.stands.specs.Stands.{alphabet};
-ghost use Rattle.text.specs.Spelling.{decimal, tens, label_text, message_label};
-ghost use Rattle.text.specs.Putting.{Short, Put};
-ghost use Rattle.writer.specs.Written.{too_long};
-ghost use Rattle.ranks.specs.Rising.{Rising};
-ghost use Rattle.report.specs.declared.Reported.TheVariants.{Refused};
-ghost use Rattle.report.specs.RunText.{rbk, step_line};
-ghost use Rattle.report.specs.Output.{word_line, compliant_text, refused_text};
-ghost use Rattle.report.specs.Followed.{next_state, next_home, seen_line, followed, stuck_text};
-ghost use Rattle.report.specs.Listed.{Room, SideListed, Listed};
+ghost use Rattle.text.specs.Putting.{Short, Puts};
+ghost use Rattle.report.specs.Output.{words_line, refused_text};
+ghost use Rattle.report.specs.Followed.{seen_line, stepped, followed, stuck_text};
 ghost use Rattle.report.specs.Reports.{Tells, Reports};
 ghost use Rattle.report.specs.Judges.{CanJudge, Judges};
 
-use behaviour::{Behaviour, Messages, Refusal};
-use tokens::Line;
-use verdict::Verdict;
+use behaviour::{Behaviour, Reason, Refusal};
+use ranks::Names;
+use search::ROLLBACK;
+use text::Text;
+use verdict::Judgement;
 
-// A rollback's byte in a run.
-const ROLLBACK: u8 = 255;
-
-// The number of bytes written, or the refusal.
-#[derive(Clone, Copy)]
-pub enum Reported {
-    Bytes(u32),
-    Refused(Refusal),
-}
-
-// A space and `n`.
-fn put_number(out: &mut [u8], at: usize, n: usize) -> usize
-    requires n_bound { n < tens 4 }
-    requires short { Short at (32 ∷ decimal n) }
-    ensures { Put out.old at (32 ∷ decimal n) result out.new }
+// A word, each number after a space, and LF. All that is told has numbers of at most 16 bits.
+fn put_words(out: &mut Text, word: &[u8], numbers: &[u16])
+    ensures { Puts out.old (words_line word.now numbers.now) out.new }
 {
-    let a = text::put(out, at, b' ');
-    text::put_decimal(out, a, 4, n)
-}
-
-// A word and one number.
-fn put_compliant(out: &mut [u8], at: usize, n: usize) -> usize
-    requires n_bound { n < tens 4 }
-    requires short { Short at (compliant_text n) }
-    ensures { Put out.old at (compliant_text n) result out.new }
-{
-    let a = text::put_bytes(out, at, b"compliant");
-    let b = put_number(out, a, n);
-    text::put(out, b, b'\n')
-}
-
-// A word and two numbers.
-fn put_words(out: &mut [u8], at: usize, word: &[u8], m: usize, n: usize) -> usize
-    requires m_bound { m < tens 4 }
-    requires n_bound { n < tens 4 }
-    requires short { Short at (word_line word.now m n) }
-    ensures { Put out.old at (word_line word.now m n) result out.new }
-{
-    let a = text::put_bytes(out, at, word);
-    let b = put_number(out, a, m);
-    let c = put_number(out, b, n);
-    text::put(out, c, b'\n')
-}
-
-fn put_rollback(out: &mut [u8], at: usize, k: usize) -> usize
-    requires k_bound { k < 99999 }
-    requires short { Short at (step_line k rbk) }
-    ensures { Put out.old at (step_line k rbk) result out.new }
-{
-    let a = text::put_opening(out, at, k);
-    let b = text::put_bytes(out, a, b"rbk");
-    text::put_closing(out, b, k + 1)
-}
-
-fn name_at(names: &[u64], b: u8) -> u64
-    ensures { result ≡ get_or names.now b 0 }
-{
-    let i = behaviour::wide(b);
-    if i < names.len() {
-        return names[i];
+    out.put_bytes(word);
+    for &n in numbers {
+        out.put(b' ');
+        out.put_decimal(4, usize::from(n));
     }
-    0
+    out.put(b'\n');
 }
 
-fn put_message(out: &mut [u8], at: usize, k: usize, sign: u8, n: u64) -> usize
-    requires k_bound { k < 99999 }
-    requires short { Short at (step_line k (label_text (message_label sign n))) }
-    ensures { Put out.old at (step_line k (label_text (message_label sign n))) result out.new }
-{
-    let label = text::label_of(sign, n);
-    text::put_line(
-        out,
-        at,
-        Line {
-            from: k,
-            label,
-            to: k + 1,
-        },
-    )
+// The client of a run, followed alone: the names are those of both files in byte order, and `home` is the state that it goes back to.
+#[derive(Drop)]
+struct Client<'a> {
+    value: &'a Behaviour,
+    names: &'a [u64],
+    state: u8,
+    home: u8,
 }
 
-// The line of the step b at the client's state x.
-fn put_step(out: &mut [u8], at: usize, k: usize, c: Behaviour, names: &[u64], b: u8, x: u8) -> usize
-    requires k_bound { k < 99999 }
-    requires short { Short at (seen_line c names.now k x b) }
-    ensures { Put out.old at (seen_line c names.now k x b) result out.new }
-{
-    if b == ROLLBACK {
-        return put_rollback(out, at, k);
+impl Client<'_> {
+    // The name of the rank `b`.
+    // Kept: 0 and no Option for a name that is not there, since the lines of the run are `followed` (specs/Followed.antt), which has 0 there.
+    fn name(&self, b: u8) -> u64
+        ensures { result ≡ get_or self.now.names.now b 0 }
+    {
+        self.names.get(usize::from(b)).copied().unwrap_or(0)
     }
-    let signs = c.signs;
-    let sign = behaviour::entry(signs, x);
-    let n = name_at(names, b);
-    put_message(out, at, k, sign, n)
-}
 
-fn next_state(c: Behaviour, names: &[u64], b: u8, x: u8, home: u8) -> u8
-    ensures { result ≡ next_state c b (get_or names.now b 0) x home }
-{
-    if b == ROLLBACK {
-        return home;
+    // The line of its step `b`, which `k` steps are before.
+    fn put_step(&self, out: &mut Text, k: usize, b: u8)
+        requires { k < 99999 }
+        ensures { Puts out.old (seen_line self.now.value.now self.now.names.now k self.now.state b) out.new }
+    {
+        out.put_opening(k);
+        if b == ROLLBACK {
+            out.put_bytes(b"rbk");
+        } else {
+            let sign = behaviour::entry(self.value.signs, self.state);
+            out.put_label(text::label_of(sign, self.name(b)));
+        }
+        out.put_closing(k + 1);
     }
-    let n = name_at(names, b);
-    steps::target_of(c, x, n)
-}
 
-fn next_home(c: Behaviour, b: u8, x: u8, home: u8) -> u8
-    ensures { result ≡ next_home c b x home }
-{
-    if b == ROLLBACK {
-        return home;
+    fn step(&mut self, b: u8)
+        ensures { self.new ≡ stepped self.old b }
+    {
+        if b == ROLLBACK {
+            self.state = self.home;
+            return;
+        }
+        let x = self.state;
+        if behaviour::entry(self.value.marks, x) == 1 {
+            self.home = x;
+        }
+        self.state = steps::target_of(*self.value, x, self.name(b));
     }
-    let marks = c.marks;
-    if behaviour::entry(marks, x) == 1 {
-        return x;
-    }
-    home
 }
 
 // The lines of the run.
-fn put_steps(out: &mut [u8], at: usize, c: Behaviour, names: &[u64], run: &[u8]) -> usize
-    requires run_len_bound { length run.now < 99999 }
-    requires short { Short at (followed c names.now 0 0 0 run.now) }
-    ensures { Put out.old at (followed c names.now 0 0 0 run.now) result out.new }
+// Kept: the client, the names, the cause and the run travel one by one through the functions below, since `followed` and `stuck_text`
+// name each of them: with a struct around them the clauses would be longer, and none of the functions shorter. So the bound of the run's
+// length, which is of the one slice that is told, stands in each.
+fn put_steps(out: &mut Text, c: &Behaviour, names: &[u64], run: &[u8])
+    requires { length run.now < 65535 }
+    ensures { Puts out.old (followed c.now names.now 0 0 0 run.now) out.new }
 {
-    let mut place = at;
-    let mut x: u8 = 0;
-    let mut home: u8 = 0;
-    let mut i = 0;
-    while i < run.len() {
-        let b = run[i];
-        place = put_step(out, place, i, c, names, b, x);
-        let y = next_state(c, names, b, x, home);
-        home = next_home(c, b, x, home);
-        x = y;
-        i += 1;
+    let mut client = Client {
+        value: c,
+        names,
+        state: 0,
+        home: 0,
+    };
+    for (k, &b) in run.iter().enumerate() {
+        client.put_step(out, k, b);
+        client.step(b);
     }
-    place
 }
 
 // The whole output for a pair that is stuck.
-fn put_stuck(
-    out: &mut [u8],
-    at: usize,
-    c: Behaviour,
-    names: &[u64],
-    cause: usize,
-    run: &[u8],
-) -> usize
-    requires cause_bound { (cause < tens 4) × (length run.now < 99999) }
-    requires short { Short at (stuck_text c names.now cause run.now) }
-    ensures { Put out.old at (stuck_text c names.now cause run.now) result out.new }
+// Kept: casts, here and below, which are proved to fit; `try_from` would ask for an answer that never comes.
+fn put_stuck(out: &mut Text, c: &Behaviour, names: &[u64], cause: u8, run: &[u8])
+    requires { length run.now < 65535 }
+    ensures { Puts out.old (stuck_text c.now names.now cause run.now) out.new }
 {
     let n = run.len();
-    let a = put_words(out, at, b"stuck", cause, n);
-    let b = text::put_head(out, a, n, n + 1);
-    put_steps(out, b, c, names, run)
+    put_words(out, b"stuck", &[u16::from(cause), n as u16]);
+    out.put_head(n, n + 1);
+    put_steps(out, c, names, run);
 }
 
-fn too_long() -> Reported
-    ensures { result ≡ Refused too_long }
+// A line of a word and numbers at the front of `out`; or 12, if it is longer.
+fn say_words(word: &[u8], numbers: &[u16], out: &mut [u8]) -> Result<u32, Refusal>
+    requires { (length word.now ≤ 100) × (length numbers.now ≤ 100) }
+    ensures { Tells (words_line word.now numbers.now) out.old result out.new }
 {
-    Reported::Refused(behaviour::refuse(12, 0))
+    let n = text::put_front(out, |text| put_words(text, word, numbers)).ok_or(
+        Reason::LongerThanLent,
+    )?;
+    Ok(n as u32)
 }
 
-// Each text is put twice: into a buffer of one byte first, for its length.
-fn say_refused(word: &[u8], f: Refusal, out: &mut [u8]) -> Reported
+// A refused file's line.
+fn say_refused(word: &[u8], f: Refusal, out: &mut [u8]) -> Result<u32, Refusal>
     requires { length word.now ≤ 100 }
     ensures { Tells (refused_text word.now f) out.old result out.new }
 {
-    let number = behaviour::wide(f.number);
-    let place = f.place as usize;
-    let mut none = [0u8; 1];
-    let n = put_words(&mut none, 0, word, number, place);
-    if out.len() < n {
-        return too_long();
-    }
-    put_words(out, 0, word, number, place);
-    Reported::Bytes(n as u32)
+    say_words(word, &[u16::from(f.reason.number()), f.place], out)
 }
 
-fn say_compliant(stands: u16, out: &mut [u8]) -> Reported
-    ensures { Tells (compliant_text stands) out.old result out.new }
-{
-    let k = stands as usize;
-    let mut none = [0u8; 1];
-    let n = put_compliant(&mut none, 0, k);
-    if out.len() < n {
-        return too_long();
-    }
-    put_compliant(out, 0, k);
-    Reported::Bytes(n as u32)
-}
-
-fn say_run(c: Behaviour, names: &[u64], cause: u8, run: &[u8], out: &mut [u8]) -> Reported
-    requires { length run.now < 99999 }
-    ensures { Tells (stuck_text c names.now cause run.now) out.old result out.new }
-{
-    let e = behaviour::wide(cause);
-    let mut none = [0u8; 1];
-    let n = put_stuck(&mut none, 0, c, names, e, run);
-    if out.len() < n {
-        return too_long();
-    }
-    put_stuck(out, 0, c, names, e, run);
-    Reported::Bytes(n as u32)
-}
-
-// The names of one side put into the first used names of the list.
-fn list_side(
-    list: &mut [u64],
-    used: usize,
-    messages: Messages,
-    count: usize,
-    names: &mut [u64],
-    froms: &mut [u8],
-    steps: &mut [u16],
-) -> usize
-    requires room { Room count names.old froms.old steps.old }
-    requires count_in_bounds { (used + count ≤ length list.old) × Rising list.old used }
-    ensures { SideListed list.old list.new used (take count messages) result }
-{
-    ranks::unpack(messages, count, 0, names, froms, steps);
-    ranks::enter_all(list, used, names, count)
-}
-
-// The different names of both files in byte order; how many there are.
-fn list_names(
-    c: Behaviour,
-    s: Behaviour,
-    list: &mut [u64],
-    names: &mut [u64],
-    froms: &mut [u8],
-    steps: &mut [u16],
-) -> usize
-    requires room { (Room c.count names.old froms.old steps.old) × Room s.count names.old froms.old steps.old }
-    requires in_bounds { 192 ≤ length list.old }
-    ensures { Listed c s list.new result }
-{
-    let server = s.messages;
-    let m = behaviour::wide(s.count);
-    let used = list_side(list, 0, server, m, names, froms, steps);
-    let client = c.messages;
-    let n = behaviour::wide(c.count);
-    list_side(list, used, client, n, names, froms, steps)
-}
-
-fn say_stuck_in(
-    c: Behaviour,
-    s: Behaviour,
+fn say_run(
+    c: &Behaviour,
+    names: &[u64],
     cause: u8,
     run: &[u8],
-    list: &mut [u64],
-    names: &mut [u64],
-    froms: &mut [u8],
-    steps: &mut [u16],
     out: &mut [u8],
-) -> Reported
-    requires room { (Room c.count names.old froms.old steps.old) × Room s.count names.old froms.old steps.old }
-    requires in_bounds { (192 ≤ length list.old) × (length run.now < 99999) }
-    ensures { Tells (stuck_text c (alphabet c s) cause run.now) out.old result out.new }
+) -> Result<u32, Refusal>
+    requires { length run.now < 65535 }
+    ensures { Tells (stuck_text c.now names.now cause run.now) out.old result out.new }
 {
-    let used = list_names(c, s, list, names, froms, steps);
-    say_run(c, &list[..used], cause, run, out)
+    let n = text::put_front(out, |text| put_stuck(text, c, names, cause, run)).ok_or(
+        Reason::LongerThanLent,
+    )?;
+    Ok(n as u32)
 }
 
-fn say_stuck(c: Behaviour, s: Behaviour, cause: u8, run: &[u8], out: &mut [u8]) -> Reported
-    requires { (c.count ≤ 96) × (s.count ≤ 96) × (length run.now < 99999) }
-    ensures { Tells (stuck_text c (alphabet c s) cause run.now) out.old result out.new }
+// The names are those of both files.
+// Kept: client and server, lent, are two values, and no pair is a type of its own: `alphabet` names each.
+fn say_stuck(
+    c: &Behaviour,
+    s: &Behaviour,
+    cause: u8,
+    run: &[u8],
+    out: &mut [u8],
+) -> Result<u32, Refusal>
+    requires { (c.now.count ≤ 96) × (s.now.count ≤ 96) × (length run.now < 65535) }
+    ensures { Tells (stuck_text c.now (alphabet c.now s.now) cause run.now) out.old result out.new }
 {
-    let mut list = [0u64; 192];
-    let mut names = [0u64; 96];
-    let mut froms = [0u8; 96];
-    let mut steps = [0u16; 96];
-    say_stuck_in(
-        c, s, cause, run, &mut list, &mut names, &mut froms, &mut steps, out,
-    )
+    let mut names = Names::new();
+    names.enter_all(s.used_messages());
+    names.enter_all(c.used_messages());
+    say_run(c, names.as_slice(), cause, run, out)
 }
 
-fn say_verdict(c: Behaviour, s: Behaviour, run: &mut [u8], out: &mut [u8]) -> Reported
+fn say_verdict(c: Behaviour, s: Behaviour, run: &mut [u8], out: &mut [u8]) -> Result<u32, Refusal>
     requires { CanJudge c s run.old }
     ensures { Judges c s out.old result out.new }
 {
-    let v = verdict::judge(c, s, run);
-    match v {
-        Verdict::Compliant(n) => say_compliant(n, out),
-        Verdict::Stuck(cause, n) => {
-            let k = n as usize;
-            say_stuck(c, s, cause, &run[..k], out)
-        }
-        // 13 is not given to what a file gave, and 12 not with room for every run.
-        Verdict::Refused(f) => Reported::Refused(f),
+    // 13 is not given to what a file gave, and 12 not with room for every run.
+    let judged = verdict::judge(c, s, run)?;
+    match judged {
+        Judgement::Compliant(n) => say_words(b"compliant", &[n], out),
+        Judgement::Stuck(cause, n) => say_stuck(&c, &s, cause, &run[..usize::from(n)], out),
     }
 }
 
-fn report_in(client: &[u8], server: &[u8], run: &mut [u8], out: &mut [u8]) -> Reported
+fn report_in(client: &[u8], server: &[u8], run: &mut [u8], out: &mut [u8]) -> Result<u32, Refusal>
     requires { length run.old ≡ 12100 }
     ensures { Reports client.now server.now out.old result out.new }
 {
-    let a = aut::read_file(client);
-    let f = a.refusal;
-    if f.number != 0 {
-        return say_refused(b"client", f, out);
-    }
-    let b = aut::read_file(server);
-    let g = b.refusal;
-    if g.number != 0 {
-        return say_refused(b"server", g, out);
-    }
-    let c = a.value;
-    let s = b.value;
+    let c = match aut::read_file(client) {
+        Ok(c) => c,
+        Err(f) => return say_refused(b"client", f, out),
+    };
+    let s = match aut::read_file(server) {
+        Ok(s) => s,
+        Err(f) => return say_refused(b"server", f, out),
+    };
     say_verdict(c, s, run, out)
 }
 
 // The whole output for a client file and a server file, at the front of `out`; or 12, if it is longer.
-pub fn report(client: &[u8], server: &[u8], out: &mut [u8]) -> Reported
+pub fn report(client: &[u8], server: &[u8], out: &mut [u8]) -> Result<u32, Refusal>
     ensures { Reports client.now server.now out.old result out.new }
 {
     let mut run = [0u8; 12100];

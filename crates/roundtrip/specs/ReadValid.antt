@@ -1,8 +1,7 @@
 -- Whatever is read is valid.
-use Rattle.std.specs.Prelude.{◌≡◌, List, [], ◌∷◌, Bool, true, false, ◌&&◌, ◌⊎◌, ℕ, zero, suc, ◌+◌, ◌-◌, ◌<◌, ◌≤◌, eqb, leb, ltb, get_or, replicate}
+use Rattle.std.specs.Prelude.{◌≡◌, Result, Ok, Err, ⊤, List, [], ◌∷◌, Bool, true, false, ◌&&◌, ◌⊎◌, ℕ, zero, suc, ◌+◌, ◌-◌, ◌<◌, ◌≤◌, eqb, leb, ltb, get_or, replicate}
 use Rattle.std.proofs.Math.Path.{refl}
-use Rattle.std.proofs.Common.{sym, ap, subst, ◌∙◌, inl, inr, arith, ltb-false, eqb-true, leb-true}
-use Rattle.std.proofs.lemmas.Bool.{eqb-false}
+use Rattle.std.proofs.Common.{sym, ap, subst, ◌∙◌, inl, inr, arith, ltb-false, leb-true}
 use Rattle.std.proofs.Math.ListN.{length, length-set, set}
 use Rattle.std.proofs.Math.Seq.{take-append_seam, drop-append-add}
 use Rattle.names.specs.If.{if}
@@ -13,15 +12,16 @@ use Rattle.tokens.specs.declared.Label.{Label}
 use Rattle.tokens.specs.declared.Label.TheVariants.{Mark, Take, Send, Other}
 use Rattle.tokens.specs.declared.Line.{Line}
 use Rattle.tokens.specs.declared.Head.{Head}
+use Rattle.behaviour.specs.declared.Reason.{Reason}
+use Rattle.behaviour.specs.declared.Reason.TheVariants as reason
 use Rattle.behaviour.specs.declared.Message.{Message}
 use Rattle.behaviour.specs.declared.Behaviour.{Behaviour}
 use Rattle.behaviour.specs.Limits.{most_states, most_lines, most_bytes}
 use Rattle.behaviour.specs.Pick.{unused}
 use Rattle.behaviour.specs.Sound.{messages, total}
-use Rattle.aut.specs.declared.Read.{Read}
 use Rattle.aut.specs.Adding.{insert, has, bare, add, add_label, add_message, check, check_label, check_message}
 use Rattle.aut.specs.Accepting.{low}
-use Rattle.aut.specs.File.{refuse, accept, marked_finished, finish, next, lines, begin, file}
+use Rattle.aut.specs.File.{Read, refuse, if_passed, accept, marked_finished, finish, next, lines, begin, file}
 use Rattle.writer.specs.Text.{after_state}
 use Rattle.roundtrip.specs.Rebuild.{holding, AllBetween, Settled, rest-zero}
 use Rattle.roundtrip.specs.Sorted.{Sorted, least, insert-sorted, insert-between, insert-length, settled-message, settled-mark}
@@ -55,12 +55,12 @@ message_added : (s : ℕ) (p q : List ℕ) (a : List Message) (m : Message) (g :
 message_added s p q a m g r =
     rw (insert-length m a, take-append_seam a (replicate (most_lines - length a) unused), drop-append-add a (replicate (most_lines - length a) unused) 1, rest-zero (length a) r)
 
-message_new : (b : Behaviour) (f o n : ℕ) → check_message b f o n ≡ 0 → has f n (messages b) ≡ false
+message_new : (b : Behaviour) (f o n : ℕ) → check_message b f o n ≡ Ok tt → has f n (messages b) ≡ false
 message_new b f o n e = go (eqb (get_or b.signs f 0) o) (has f n (messages b)) e
   where
-    go : (t u : Bool) → ◌≡◌ {A = ℕ} (if t 9 (if u 10 0)) 0 → u ≡ false
-    go true u h = absurd (omega arith)
-    go false true h = absurd (omega arith)
+    go : (t u : Bool) → ◌≡◌ {A = Result ⊤ Reason} (if t (Err reason.TakingAndSending) (if u (Err reason.SameNameAgain) (Ok tt))) (Ok tt) → u ≡ false
+    go true u h = absurd cc
+    go false true h = absurd cc
     go false false h = refl
 
 Next : ℕ → ℕ → Behaviour → Type 0
@@ -89,7 +89,7 @@ module _ (s n : ℕ) (high : s ≤ most_states) (few : n < most_lines) (mk gs : 
         },
       )
 
-  label-held : (f t : ℕ) (l : Label) → LabelFair l → f < s → t < s → check_label (holding s mk gs a) f t l ≡ 0 → Next s (n + 1) (add_label (holding s mk gs a) f t l)
+  label-held : (f t : ℕ) (l : Label) → LabelFair l → f < s → t < s → check_label (holding s mk gs a) f t l ≡ Ok tt → Next s (n + 1) (add_label (holding s mk gs a) f t l)
   unfolding Next
   label-held f t Mark w p q e =
       let c = h.counted in let o = total-set mk f in (
@@ -112,19 +112,20 @@ module _ (s n : ℕ) (high : s ≤ most_states) (few : n < most_lines) (mk gs : 
   label-held f t (Send x) w p q e =
       message-held (record { from = f; name = x; to = t }) 2 (inr refl) (p, q, w)
       (sym (ap (has f x) (take-append_seam a (replicate (most_lines - length a) unused))) ∙ message_new (holding s mk gs a) f 1 x e)
-  label-held f t Other w p q e = absurd (omega arith)
+  label-held f t Other w p q e = absurd cc
 
-  line-held : (l : Line) → LabelFair l.label → check (holding s mk gs a) l ≡ 0 → Next s (n + 1) (add (holding s mk gs a) l)
+  line-held : (l : Line) → LabelFair l.label → check (holding s mk gs a) l ≡ Ok tt → Next s (n + 1) (add (holding s mk gs a) l)
   unfolding add
   line-held l w e = let c = low (holding s mk gs a) l e in label-held l.from l.to l.label w c.0 c.1 c.2
 
 -- an answer that is no refusal has a valid value
 Fine : Read → Type 0
-Fine r = r.refusal.number ≡ 0 → Valid r.value
+Fine (Ok b) = Valid b
+Fine (Err f) = Unit {0}
 
-refuse-fine : (k p : ℕ) → (k ≡ 0 → ⊥) → Fine (refuse k p)
+refuse-fine : (k : Reason) (p : ℕ) → Fine (refuse k p)
 unfolding Fine
-refuse-fine k p n = λ z. absurd (n z)
+refuse-fine k p = tt
 
 finish-fine : (s n : ℕ) → 1 ≤ s → s ≤ most_states → n ≤ most_lines → (mk gs : List ℕ) (a : List Message) → Held s n mk gs a → Fine (finish (holding s mk gs a))
 unfolding Fine
@@ -145,9 +146,9 @@ finish-fine s n low high few mk gs a h = go (ltb (marked_finished 0 mk gs) most_
       unfinished = ltb-false _ _ e;
     }
 
-    go : (t : Bool) → ltb (marked_finished 0 mk gs) most_states ≡ t → (if t (refuse 11 (marked_finished 0 mk gs)) (accept (holding s mk gs a))).refusal.number ≡ 0 → Valid (if t (refuse 11 (marked_finished 0 mk gs)) (accept (holding s mk gs a))).value
-    go true e = λ z. absurd (omega arith)
-    go false e = λ z. valid e
+    go : (t : Bool) → ltb (marked_finished 0 mk gs) most_states ≡ t → Fine (if t (refuse reason.FinishedMarked (marked_finished 0 mk gs)) (accept (holding s mk gs a)))
+    go true e = tt
+    go false e = valid e
 
 Later : ℕ → ℕ → ℕ → ℕ → Type 0
 Later s n t p = (mk : List ℕ) (gs : List ℕ) (a : List Message) → Held s n mk gs a → (r : List ℕ) → Fine (lines t p (holding s mk gs a) r)
@@ -159,19 +160,17 @@ go_on s n t p d r x i = subst (λ (y : Behaviour). Fine (lines t p y r)) (sym x.
 next-fine : (s n t p : ℕ) → s ≤ most_states → n < most_lines → (mk gs : List ℕ) (a : List Message) → Held s n mk gs a → Later s (n + 1) t (p + 1)
     → (m : Got Line) → All (λ (l : Line). LabelFair l.label) m → Fine (next p (holding s mk gs a) m (lines t (p + 1)))
 unfolding Fine
-next-fine s n t p high few mk gs a h i off w = λ z. absurd (omega arith)
-next-fine s n t p high few mk gs a h i (got l r) w = go (eqb (check (holding s mk gs a) l) 0) refl
+next-fine s n t p high few mk gs a h i off w = tt
+next-fine s n t p high few mk gs a h i (got l r) w = go (check (holding s mk gs a) l) refl
   where
-    go : (u : Bool) → eqb (check (holding s mk gs a) l) 0 ≡ u
-        → (if u (lines t (p + 1) (add (holding s mk gs a) l) r) (refuse (check (holding s mk gs a) l) p)).refusal.number ≡ 0
-        → Valid (if u (lines t (p + 1) (add (holding s mk gs a) l) r) (refuse (check (holding s mk gs a) l) p)).value
-    go true e = go_on s (n + 1) t (p + 1) (add (holding s mk gs a) l) r (line-held s n high few mk gs a h l w (eqb-true _ _ e)) i
-    go false e = λ z. absurd (eqb-false _ _ e z)
+    go : (k : Result ⊤ Reason) → check (holding s mk gs a) l ≡ k → Fine (if_passed p k (lines t (p + 1) (add (holding s mk gs a) l) r))
+    go (Ok _) e = go_on s (n + 1) t (p + 1) (add (holding s mk gs a) l) r (line-held s n high few mk gs a h l w e) i
+    go (Err k) e = tt
 
 lines-fine : (s : ℕ) → 1 ≤ s → s ≤ most_states → (t n : ℕ) → n + t ≤ most_lines → (mk gs : List ℕ) (a : List Message) → Held s n mk gs a → (p : ℕ) (r : List ℕ) → Fine (lines t p (holding s mk gs a) r)
 unfolding lines Later
 lines-fine s low high zero n few mk gs a h p [] = finish-fine s n low high (omega arith) mk gs a h
-lines-fine s low high zero n few mk gs a h p (c ∷ r) = refuse-fine 5 p (omega arith)
+lines-fine s low high zero n few mk gs a h p (c ∷ r) = refuse-fine reason.LineShape p
 lines-fine s low high (suc t) n few mk gs a h p r =
     next-fine s n t p high (omega arith) mk gs a h (λ mk' gs' a' h' r'. lines-fine s low high t (n + 1) (omega arith) mk' gs' a' h' (p + 1) r') (line r) (line-fair r)
 
@@ -191,20 +190,20 @@ unfolding file
 file-fine r = go (leb (length r) most_bytes) (head r)
   where
     inner : (h : Head) (s : List ℕ) (t u v w : Bool) → leb 1 h.states ≡ u → leb h.states most_states ≡ v → leb h.lines most_lines ≡ w
-        → Fine (if t (if (u && v && w) (lines h.lines 2 (bare h.states) s) (refuse 4 1)) (refuse 3 1))
-    inner h s false u v w a b c = refuse-fine 3 1 (omega arith)
+        → Fine (if t (if (u && v && w) (lines h.lines 2 (bare h.states) s) (refuse reason.SizeOutsideRange 1)) (refuse reason.StartNotZero 1))
+    inner h s false u v w a b c = refuse-fine reason.StartNotZero 1
     inner h s true true true true a b c =
         let l : h.lines ≤ most_lines = leb-true h.lines most_lines c in
         lines-fine h.states (leb-true _ _ a) (leb-true _ _ b) h.lines 0 (omega arith) (replicate most_states 0) (replicate most_states 0) [] (zeros_held h.states) 2 s
-    inner h s true true true false a b c = refuse-fine 4 1 (omega arith)
-    inner h s true true false w a b c = refuse-fine 4 1 (omega arith)
-    inner h s true false v w a b c = refuse-fine 4 1 (omega arith)
+    inner h s true true true false a b c = refuse-fine reason.SizeOutsideRange 1
+    inner h s true true false w a b c = refuse-fine reason.SizeOutsideRange 1
+    inner h s true false v w a b c = refuse-fine reason.SizeOutsideRange 1
 
-    go : (t : Bool) (m : Got Head) → Fine (if t (begin m) (refuse 1 0))
-    go false m = refuse-fine 1 0 (omega arith)
-    go true off = refuse-fine 2 1 (omega arith)
+    go : (t : Bool) (m : Got Head) → Fine (if t (begin m) (refuse reason.FileTooLong 0))
+    go false m = refuse-fine reason.FileTooLong 0
+    go true off = refuse-fine reason.FirstLineShape 1
     go true (got h s) = inner h s (eqb h.start 0) (leb 1 h.states) (leb h.states most_states) (leb h.lines most_lines) refl refl refl
 
 pub read-valid : (r : List ℕ) (b : Behaviour) → file r ≡ accept b → Valid b
 unfolding Fine
-read-valid r b e = subst (λ (x : Read). x.refusal.number ≡ 0 → Valid x.value) e (file-fine r) refl
+read-valid r b e = subst Fine e (file-fine r)

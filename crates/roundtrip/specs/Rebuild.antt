@@ -1,5 +1,5 @@
 -- The lines of a sound value, added one after the other, give the value.
-use Rattle.std.specs.Prelude.{◌≡◌, Bool, true, false, ◌⊎◌, ℕ, suc, ◌+◌, ◌-◌, ◌<◌, ◌≤◌, eqb, set, drop, replicate}
+use Rattle.std.specs.Prelude.{◌≡◌, Ok, Bool, true, false, ◌⊎◌, ℕ, suc, ◌+◌, ◌-◌, ◌<◌, ◌≤◌, eqb, set, drop, replicate}
 use Rattle.std.proofs.Math.Path.{refl, ap, subst}
 use Rattle.std.proofs.Common.{sym, ap₂, ◌∙◌, inl, inr}
 use mathlib.Core.List.{List, [], ◌∷◌, ◌++◌, append_assoc, append-nil}
@@ -18,9 +18,8 @@ use Rattle.behaviour.specs.Limits.{most_lines}
 use Rattle.behaviour.specs.Pick.{unused}
 use Rattle.behaviour.specs.Sound.{before}
 use Rattle.behaviour.specs.Ordered.{not_back, not_alike}
-use Rattle.aut.specs.declared.Read.{Read}
 use Rattle.aut.specs.Adding.{insert, has, add, add_message, check, check_message}
-use Rattle.aut.specs.File.{finish}
+use Rattle.aut.specs.File.{Read, finish}
 use Rattle.aut.specs.Contents.{judged}
 use Rattle.writer.specs.Text.{message_line, mark_line, message_lines, after_state, lines_from}
 
@@ -57,12 +56,12 @@ module _ (s : ℕ) (p q : List ℕ) (a : List Message) (m : Message) (b : Below 
       let n : length (a ++ (m ∷ [])) ≡ length a + 1 = length-append a (m ∷ []) in
       rw (n, take-append_seam a (replicate (most_lines - length a) unused), drop-append-add a (replicate (most_lines - length a) unused) 1, rest-zero (length a) r, insert-last a m b)
 
-  check-step : (o : ℕ) → (get_or q m.from 0 ≡ o → ⊥) → check_message (holding s p q a) m.from o m.name ≡ 0
+  check-step : (o : ℕ) → (get_or q m.from 0 ≡ o → ⊥) → check_message (holding s p q a) m.from o m.name ≡ Ok tt
   check-step o h = rw (ne_eqb (get_or q m.from 0) o h, take-append_seam a (replicate (most_lines - length a) unused), has-not a m b)
 
   -- a message's line meets no refusal, and adds the message
   line_step : (g : ℕ) → (g ≡ 1) ⊎ (g ≡ 2) → (get_or q m.from 0 ≡ 0) ⊎ (get_or q m.from 0 ≡ g) → m.from < s → m.to < s
-      → (check (holding s p q a) (message_line g m) ≡ 0) × (add (holding s p q a) (message_line g m) ≡ holding s p (set q m.from g) (a ++ (m ∷ [])))
+      → (check (holding s p q a) (message_line g m) ≡ Ok tt) × (add (holding s p q a) (message_line g m) ≡ holding s p (set q m.from g) (a ++ (m ∷ [])))
   unfolding check add
   line_step g (inl e) z f t = (
     rw (lt-ltb m.from s f, lt-ltb m.to s t, eq-eqb g 1 e) (check-step 2 (λ w. other z w)),
@@ -102,7 +101,7 @@ Settled s k [] (g ∷ gs) ms = ⊥
 Settled s k (m ∷ mk) [] ms = ⊥
 Settled s k (m ∷ mk) (g ∷ gs) ms = ((m ≡ 0) ⊎ ((m ≡ 1) × (k < s))) × Signed k g ms × Settled s (k + 1) mk gs (after_state k ms)
 
-add_step : (b d : Behaviour) (l : Line) (ls : List Line) (x : Read) → (check b l ≡ 0) × (add b l ≡ d) → ((p : ℕ) → judged p d ls ≡ x) → (p : ℕ) → judged p b (l ∷ ls) ≡ x
+add_step : (b d : Behaviour) (l : Line) (ls : List Line) (x : Read) → (check b l ≡ Ok tt) × (add b l ≡ d) → ((p : ℕ) → judged p d ls ≡ x) → (p : ℕ) → judged p b (l ∷ ls) ≡ x
 unfolding judged
 add_step b d l ls x e k p = rw (e.0, e.1) (k (p + 1))
 
@@ -161,7 +160,7 @@ module _ (s k : ℕ) (p₀ q₀ r : List ℕ) (rest : List Line) (x : Read) (len
       go false e o c = λ p. subst (λ (y : ℕ). judged p (holding s p₀ (q₀ ++ y ∷ r) a) rest ≡ x) o (c a refl u v p)
 
 module _ (s k : ℕ) (p₀ r q : List ℕ) (a : List Message) (rest : List Line) (x : Read) (len : length p₀ ≡ k) where
-  free_mark : k < s → check (holding s (p₀ ++ 0 ∷ r) q a) (record { from = k; label = Mark; to = k }) ≡ 0
+  free_mark : k < s → check (holding s (p₀ ++ 0 ∷ r) q a) (record { from = k; label = Mark; to = k }) ≡ Ok tt
   unfolding check
   free_mark f = rw (lt-ltb k s f, eq-eqb k k refl, get_or_at p₀ 0 r 0 k len)
 

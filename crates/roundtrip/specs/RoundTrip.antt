@@ -13,9 +13,8 @@ use Rattle.behaviour.specs.declared.Behaviour.{Behaviour}
 use Rattle.behaviour.specs.Limits.{most_states, most_lines, most_bytes}
 use Rattle.behaviour.specs.Pick.{unused}
 use Rattle.behaviour.specs.Sound.{messages, total}
-use Rattle.aut.specs.declared.Read.{Read}
 use Rattle.aut.specs.Adding.{bare}
-use Rattle.aut.specs.File.{marked_finished, finish, accept, file}
+use Rattle.aut.specs.File.{Read, marked_finished, finish, accept, file}
 use Rattle.aut.specs.Contents.{judged}
 use Rattle.text.specs.Spelling.{message_label, head_text}
 use Rattle.writer.specs.Text.{message_line, mark_line, message_lines, after_state, lines_from, lines_text, line_count, text}

@@ -1,6 +1,6 @@
 -- The promises on values and on the round trip: 13 is given exactly to "a behaviour value that no accepted file gives", and every other value
 -- is written as a text that reads as that value.
-use Rattle.std.specs.Prelude.{◌≡◌, refl, List, ◌++◌, true, false, ℕ, ◌+◌, ◌-◌, ◌≤◌, leb, length, take, drop, replicate}
+use Rattle.std.specs.Prelude.{◌≡◌, refl, List, ◌++◌, true, false, ℕ, ◌+◌, ◌-◌, ◌≤◌, leb, length, take, drop, replicate, Ok}
 use Rattle.std.proofs.Common.{sym, ap, ap₂, ◌∙◌, arith, le-leb, length-append, length-drop, take-append-drop, length-take-le}
 use Rattle.std.proofs.lemmas.List.{length-replicate}
 use Rattle.std.proofs.Math.Seq.{take-append_seam, drop-append_seam}
@@ -12,7 +12,6 @@ use Rattle.behaviour.specs.Sound.{messages, sound}
 use Rattle.behaviour.specs.SoundLaws.{Sized, Parts, parts, whole}
 use Rattle.aut.specs.Adding.{bare}
 use Rattle.aut.specs.File.{accept, file}
-use Rattle.writer.specs.declared.Written.TheVariants.{Bytes}
 use Rattle.writer.specs.Text.{text}
 use Rattle.writer.specs.Written.{written, left}
 use Rattle.writer.specs.Lengths.{text-few}
@@ -104,7 +103,7 @@ read_back r b e = let s = read-sound r b e in (sound-read b s.1 s.0).1
 
 -- with a buffer of a file's size, `write` takes every sound value, and what it puts first in the buffer reads as that value
 pub sound-written : (b : Behaviour) (out : List ℕ) → Sized b → sound b ≡ true → most_bytes ≤ length out
-    → (written b out ≡ Bytes (length (text b))) × (file (take (length (text b)) (left b out)) ≡ accept b)
+    → (written b out ≡ Ok (length (text b))) × (file (take (length (text b)) (left b out)) ≡ accept b)
 sound-written b out a e n =
     let r = sound-read b a e in
     let f : leb (length (text b)) (length out) ≡ true = le-leb (length (text b)) (length out) (omega (arith, r.0)) in

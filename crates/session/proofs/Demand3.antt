@@ -1,8 +1,9 @@
 -- Demand 3 of the calls that this crate gives, on every pair that opening accepts.
-use Rattle.std.specs.Prelude.{◌≡◌, refl, true, List, [], ◌∷◌, ◌++◌, ℕ, zero, suc}
+use Rattle.std.specs.Prelude.{◌≡◌, refl, true, List, [], ◌∷◌, ◌++◌, ℕ, zero, suc, Option, None, Some, Ok}
 use Rattle.std.proofs.Common.{sym, ◌∙◌, ap, arith}
-use Rattle.std.proofs.Math.Option.{Option, none, some}
 use Rattle.behaviour.specs.declared.Behaviour.{Behaviour}
+use Rattle.behaviour.specs.declared.Reason.{Reason}
+use Rattle.behaviour.specs.declared.Reason.TheVariants as reason
 use Rattle.behaviour.specs.SoundLaws.{Parts, parts}
 use Rattle.runs.specs.System as runs
 use Rattle.runs.specs.Rank.{from_snoc}
@@ -21,7 +22,6 @@ use Rattle.history.specs.Played.{has, session}
 use Rattle.history.specs.Meets.{Steps}
 use Rattle.history.proofs.Meets.{told, meets}
 use Rattle.session.specs.declared.Session.{Session}
-use Rattle.session.specs.declared.Answer.TheVariants as answer
 use Rattle.session.specs.Answers.{fault, stepped, named, messaged, rolled_back}
 use Rattle.session.specs.Opening.{opened, Begins, Opens}
 use Rattle.session.specs.Sides.{client_side, server_side, client_point, server_point}
@@ -32,58 +32,58 @@ use Rattle.session.specs.Range.{Within, within-stand, start-within, message-with
 -- what holds of every session that comes up: a run leads there, and 15 is not given
 record Good (c s : Behaviour) (z : Session) : Type 0 where
   pub run : List ℕ
-  pub reached : runs.after (pair c s) run ≡ some z.stand
+  pub reached : runs.after (pair c s) run ≡ Some z.stand
   pub within : Within c s z.stand
 
 module _ (c s : Behaviour) (sounds : BothSound c s) where
-  no-fault : (z : Session) → Good c s z → fault c s z.stand ≡ 0
+  no-fault : (z : Session) → Good c s z → fault c s z.stand ≡ Ok tt
   unfolding fault
   no-fault z g = rw (sounds.client, sounds.server, within-stand c s z.stand g.within)
 
   abbrev kept : Option Stand → Option Session
-  kept none = none
-  kept (some p) = some (record { stand = p })
+  kept None = None
+  kept (Some p) = Some (record { stand = p })
 
-  kept-stepped : (k : ℕ) (o : Option Stand) → handed_back (stepped k o) ≡ kept o
-  kept-stepped k none = refl
-  kept-stepped k (some p) = refl
+  kept-stepped : (k : Reason) (o : Option Stand) → handed_back (stepped k o) ≡ kept o
+  kept-stepped k None = refl
+  kept-stepped k (Some p) = refl
 
   -- with no fault a call answers by the step
   by-message : (z : Session) (n : List ℕ) → Good c s z → next c s z (message n) ≡ kept (said c s z.stand (named n))
   unfolding answered messaged
-  by-message z n g = rw (no-fault z g) (kept-stepped 16 (said c s z.stand (named n)))
+  by-message z n g = rw (no-fault z g) (kept-stepped reason.MessageNotPossible (said c s z.stand (named n)))
 
   by-rollback : (z : Session) → Good c s z → next c s z rollback ≡ kept (rules.rollback z.stand)
   unfolding answered rolled_back
-  by-rollback z g = rw (no-fault z g) (kept-stepped 17 (rules.rollback z.stand))
+  by-rollback z g = rw (no-fault z g) (kept-stepped reason.RollbackNotPossible (rules.rollback z.stand))
 
-  kept-some : (o : Option Stand) (y : Session) → kept o ≡ some y → o ≡ some y.stand
-  kept-some none y e = absurd (let z : ◌≡◌ {A = ℕ} 0 1 = cc in omega arith)
-  kept-some (some p) y e = let f : record { stand = p } ≡ y = cc in ap (λ u. some u.stand) f
+  kept-some : (o : Option Stand) (y : Session) → kept o ≡ Some y → o ≡ Some y.stand
+  kept-some None y e = absurd (let z : ◌≡◌ {A = ℕ} 0 1 = cc in omega arith)
+  kept-some (Some p) y e = let f : record { stand = p } ≡ y = cc in ap (λ u. Some u.stand) f
 
   kept-has : (o : Option Stand) → has o ≡ true → has (kept o) ≡ true
-  kept-has none e = e
-  kept-has (some p) e = refl
+  kept-has None e = e
+  kept-has (Some p) e = refl
 
   -- a granted message is one that has a name and is a step
-  named_step : (z y : Session) (n : List ℕ) → Good c s z → next c s z (message n) ≡ some y → (m : ℕ) × (named n ≡ some m) × (rules.message c s z.stand m ≡ some y.stand)
+  named_step : (z y : Session) (n : List ℕ) → Good c s z → next c s z (message n) ≡ Some y → (m : ℕ) × (named n ≡ Some m) × (rules.message c s z.stand m ≡ Some y.stand)
   named_step z y n g e = go (named n) refl (kept-some (said c s z.stand (named n)) y (sym (by-message z n g) ∙ e))
     where
-      go : (o : Option ℕ) → named n ≡ o → said c s z.stand o ≡ some y.stand → (m : ℕ) × (named n ≡ some m) × (rules.message c s z.stand m ≡ some y.stand)
-      go none f h = absurd (let z : ◌≡◌ {A = ℕ} 0 1 = cc in omega arith)
-      go (some m) f h = (m, f, h)
+      go : (o : Option ℕ) → named n ≡ o → said c s z.stand o ≡ Some y.stand → (m : ℕ) × (named n ≡ Some m) × (rules.message c s z.stand m ≡ Some y.stand)
+      go None f h = absurd (let z : ◌≡◌ {A = ℕ} 0 1 = cc in omega arith)
+      go (Some m) f h = (m, f, h)
 
-  rolled-step : (z y : Session) → Good c s z → next c s z rollback ≡ some y → rules.rollback z.stand ≡ some y.stand
+  rolled-step : (z y : Session) → Good c s z → next c s z rollback ≡ Some y → rules.rollback z.stand ≡ Some y.stand
   rolled-step z y g e = kept-some (rules.rollback z.stand) y (sym (by-rollback z g) ∙ e)
 
-  one_more : (z y : Session) (k : ℕ) → Good c s z → step c s z.stand k ≡ some y.stand → Within c s y.stand → Good c s y
-  one_more z y k g e w = record { run = g.run ++ k ∷ []; reached = from_snoc (pair c s) (some start) g.run k z.stand g.reached ∙ e; within = w }
+  one_more : (z y : Session) (k : ℕ) → Good c s z → step c s z.stand k ≡ Some y.stand → Within c s y.stand → Good c s y
+  one_more z y k g e w = record { run = g.run ++ k ∷ []; reached = from_snoc (pair c s) (Some start) g.run k z.stand g.reached ∙ e; within = w }
 
-  by_255 : (p q : Stand) → rules.rollback p ≡ some q → step c s p 255 ≡ some q
+  by_255 : (p q : Stand) → rules.rollback p ≡ Some q → step c s p 255 ≡ Some q
   unfolding step
   by_255 p q e = e
 
-  good-next : (z y : Session) (k : Call) → Good c s z → next c s z k ≡ some y → Good c s y
+  good-next : (z y : Session) (k : Call) → Good c s z → next c s z k ≡ Some y → Good c s y
   good-next z y (message n) g e =
       let p = named_step z y n g e in
       let l = labelled c s (few c s (omega (arith, a.most-lines, b.most-lines))) z.stand y.stand p.0 p.2 in
@@ -140,7 +140,7 @@ module _ (c s : Behaviour) (z : Session) (b : Begins c s z) where
   server-told h = (told named (client_side c) (server_side s) (next c s) z at by-steps h).server
 
   -- on its own pair no call gives 13 or 15: one that is not granted gives 16 or 17
-  pub faultless : (h : Calls) → fault c s (session (next c s) z h).stand ≡ 0
+  pub faultless : (h : Calls) → fault c s (session (next c s) z h).stand ≡ Ok tt
   unfolding steps
   faultless h =
       let k = steps c s b.sounds (safe_of c s b.stands b.judged) in
@@ -152,6 +152,6 @@ module _ (c s : Behaviour) (z : Session) (b : Begins c s z) where
   only_one w d = determined named (client_side c) (server_side s) w (watched c s z) d demand3
 
 -- so does every session that an answer to an opening holds
-pub opened-meets : (c s : Behaviour) (z : Session) → Opens c s (answer.Next z) → Demand named (client_side c) (server_side s) (watched c s z)
+pub opened-meets : (c s : Behaviour) (z : Session) → Opens c s (Ok z) → Demand named (client_side c) (server_side s) (watched c s z)
 unfolding Opens
 opened-meets c s z o = demand3 c s z o

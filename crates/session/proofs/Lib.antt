@@ -1,4 +1,3 @@
 -- The laws that the proofs of `session` share.
-pub mod Checks
 pub mod Opened
 pub mod Demand3

@@ -1,4 +1,5 @@
 -- What `session` means: its definitions and their laws.
+pub mod Said
 pub mod Answers
 pub mod Opening
 pub mod OneAnswer

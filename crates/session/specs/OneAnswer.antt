@@ -1,13 +1,12 @@
 -- Two answers that the statements allow for one call are equal.
-use Rattle.std.specs.Prelude.{◌≡◌, false, List, ◌⊎◌, ℕ}
+use Rattle.std.specs.Prelude.{◌≡◌, false, List, ◌⊎◌, ℕ, Ok, Err}
 use Rattle.std.proofs.Common.{sym, ◌∙◌, ap, inl, inr, arith}
 use Rattle.behaviour.specs.declared.Behaviour.{Behaviour}
 use Rattle.behaviour.specs.Sound.{sound}
 use Rattle.compliance.specs.OneJudgement.{unlike}
 use Rattle.verdict.specs.Answer.{BothSound}
 use Rattle.session.specs.declared.Session.{Session}
-use Rattle.session.specs.declared.Answer.{Answer}
-use Rattle.session.specs.declared.Answer.TheVariants as answer
+use Rattle.session.specs.Said.{Answer}
 use Rattle.session.specs.Answers.{messaged, rolled_back}
 use Rattle.session.specs.Opening.{Opens}
 
@@ -18,15 +17,15 @@ clash c s b (inr e) = absurd (let z : ◌≡◌ {A = ℕ} 0 1 = cc b.server in o
 -- of opening: by the one judgement of a pair
 pub opens_one : (c s : Behaviour) (a b : Answer) → Opens c s a → Opens c s b → a ≡ b
 unfolding Opens
-opens_one c s (answer.Next y) (answer.Next z) p q = ap answer.Next (p.begins ∙ sym q.begins)
-opens_one c s (answer.Next y) (answer.Refused f) p (inl u) = clash c s p.sounds u.which
-opens_one c s (answer.Next y) (answer.Refused f) p (inr n) = unlike c s p.stands n.cause n.steps p.judged n.judged
-opens_one c s (answer.Refused f) (answer.Next z) (inl u) q = clash c s q.sounds u.which
-opens_one c s (answer.Refused f) (answer.Next z) (inr n) q = unlike c s q.stands n.cause n.steps q.judged n.judged
-opens_one c s (answer.Refused f) (answer.Refused g) (inl u) (inl v) = ap answer.Refused (u.is ∙ sym v.is)
-opens_one c s (answer.Refused f) (answer.Refused g) (inl u) (inr n) = clash c s n.sounds u.which
-opens_one c s (answer.Refused f) (answer.Refused g) (inr n) (inl v) = clash c s n.sounds v.which
-opens_one c s (answer.Refused f) (answer.Refused g) (inr n) (inr m) = ap answer.Refused (n.is ∙ sym m.is)
+opens_one c s (Ok y) (Ok z) p q = ap Ok (p.begins ∙ sym q.begins)
+opens_one c s (Ok y) (Err f) p (inl u) = clash c s p.sounds u.which
+opens_one c s (Ok y) (Err f) p (inr n) = unlike c s p.stands n.cause n.steps p.judged n.judged
+opens_one c s (Err f) (Ok z) (inl u) q = clash c s q.sounds u.which
+opens_one c s (Err f) (Ok z) (inr n) q = unlike c s q.stands n.cause n.steps q.judged n.judged
+opens_one c s (Err f) (Err g) (inl u) (inl v) = ap Err (u.is ∙ sym v.is)
+opens_one c s (Err f) (Err g) (inl u) (inr n) = clash c s n.sounds u.which
+opens_one c s (Err f) (Err g) (inr n) (inl v) = clash c s n.sounds v.which
+opens_one c s (Err f) (Err g) (inr n) (inr m) = ap Err (n.is ∙ sym m.is)
 
 -- of a message or rollback call: the statement names the answer
 module _ (c s : Behaviour) (z : Session) (a b : Answer) where

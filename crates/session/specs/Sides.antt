@@ -1,13 +1,10 @@
 -- A client and a server as demand 3 reads them, and a stand of theirs.
-use Rattle.std.proofs.Math.Option.{Option, none, some}
-use Rattle.std.specs.Prelude.{ℕ}
+use Rattle.std.specs.Prelude.{ℕ, Option, None, Some}
 use Rattle.behaviour.specs.declared.Behaviour.{Behaviour}
 use Rattle.stands.specs.declared.ClientState.{ClientState}
 use Rattle.stands.specs.declared.ServerState.{ServerState}
-use Rattle.stands.specs.declared.ClientPoint.{ClientPoint}
-use Rattle.stands.specs.declared.ClientPoint.TheVariants as client
-use Rattle.stands.specs.declared.ServerPoint.{ServerPoint}
-use Rattle.stands.specs.declared.ServerPoint.TheVariants as server
+use Rattle.stands.specs.Points.{ClientPoint}
+use Rattle.stands.specs.Points.{ServerPoint}
 use Rattle.stands.specs.declared.Stand.{Stand}
 use Rattle.stands.specs.Stands.{among, target, finished, marked, takes, sends}
 use Rattle.history.specs.Side.{Side}
@@ -32,12 +29,12 @@ abbrev pub server_side : Behaviour → Side ServerState
 server_side = side (λ n. record { 0 = n }) (λ y. y.0)
 
 abbrev pub client_point : ClientPoint → Option ClientState
-client_point client.Nowhere = none
-client_point (client.To x) = some x
+client_point None = None
+client_point (Some x) = Some x
 
 abbrev pub server_point : ServerPoint → Option ServerState
-server_point server.Nowhere = none
-server_point (server.To y) = some y
+server_point None = None
+server_point (Some y) = Some y
 
 abbrev pub standing : Stand → Standing ClientState ServerState
 standing p = record { client = p.client; clientpoint = client_point p.clientpoint; server = p.server; serverpoint = server_point p.serverpoint }

@@ -1,20 +1,17 @@
 -- The steps of a stand, in the terms of demand 3.
 use Rattle.std.proofs.Math.Path.{◌≡◌, refl, subst}
 use Rattle.std.proofs.Common.{sym, ◌∙◌, arith}
-use Rattle.std.specs.Prelude.{Bool, ◌||◌, ◌⊎◌, ℕ}
+use Rattle.std.specs.Prelude.{Bool, ◌||◌, ◌⊎◌, ℕ, None, Some}
 use Rattle.std.proofs.Math.Bool.{true, false}
 use mathlib.Core.List.{List, [], ◌∷◌}
-use Rattle.std.proofs.Math.Option.{none, some}
 use Rattle.std.proofs.Math.Logic.{inl, inr, ⊎_elim}
 use Rattle.names.specs.If.{if}
 use Rattle.names.specs.Tests.{no, or_right, either}
 use Rattle.behaviour.specs.declared.Behaviour.{Behaviour}
 use Rattle.stands.specs.declared.ClientState.{ClientState}
 use Rattle.stands.specs.declared.ServerState.{ServerState}
-use Rattle.stands.specs.declared.ClientPoint.{ClientPoint}
-use Rattle.stands.specs.declared.ClientPoint.TheVariants as client
-use Rattle.stands.specs.declared.ServerPoint.{ServerPoint}
-use Rattle.stands.specs.declared.ServerPoint.TheVariants as server
+use Rattle.stands.specs.Points.{ClientPoint}
+use Rattle.stands.specs.Points.{ServerPoint}
 use Rattle.stands.specs.declared.Stand.{Stand}
 use Rattle.stands.specs.Stands.{among, within, empty, finished, marked, takes, sends, offers, possible, moved, message, back, rollback, even, cause}
 use Rattle.compliance.specs.Among.{among-append, among_first, within_all, all-within}
@@ -59,11 +56,11 @@ module _ (c s : Behaviour) (p : Stand) where
   unfolding message
   speaks n e = rw (can-possible c s p.client p.server n e)
 
-  client-held : (t : Bool) → client_point (if t (client.To p.client) p.clientpoint) ≡ if t (some p.client) (client_point p.clientpoint)
+  client-held : (t : Bool) → client_point (if t (Some p.client) p.clientpoint) ≡ if t (Some p.client) (client_point p.clientpoint)
   client-held true = refl
   client-held false = refl
 
-  server-held : (t : Bool) → server_point (if t (server.To p.server) p.serverpoint) ≡ if t (some p.server) (server_point p.serverpoint)
+  server-held : (t : Bool) → server_point (if t (Some p.server) p.serverpoint) ≡ if t (Some p.server) (server_point p.serverpoint)
   server-held true = refl
   server-held false = refl
 
@@ -77,11 +74,11 @@ module _ (c s : Behaviour) (p : Stand) where
     serverpoint = server-held (marked s p.server.0);
   }
 
-  pub moves : (n : ℕ) (q : Stand) → message c s p n ≡ some q → Moved (client_side c) (server_side s) (standing p) n (standing q)
+  pub moves : (n : ℕ) (q : Stand) → message c s p n ≡ Some q → Moved (client_side c) (server_side s) (standing p) n (standing q)
   unfolding message
   moves n q = go (among n (possible c s p.client p.server)) refl
     where
-      go : (t : Bool) → among n (possible c s p.client p.server) ≡ t → if t (some (moved c s p n)) none ≡ some q
+      go : (t : Bool) → among n (possible c s p.client p.server) ≡ t → if t (Some (moved c s p n)) None ≡ Some q
           → Moved (client_side c) (server_side s) (standing p) n (standing q)
       go true e f = let z : moved c s p n ≡ q = cc in subst (λ r. Moved (client_side c) (server_side s) (standing p) n (standing r)) z (by-moved n e)
       go false e f = absurd (let z : ◌≡◌ {A = ℕ} 0 1 = cc in omega arith)
@@ -99,22 +96,22 @@ module _ (c s : Behaviour) (p : Stand) where
       go (n ∷ l) f t g k = inr (n, possible-can c s p.client p.server n (rw f (among_first n l)))
 
 -- a rollback step
-pub rolls : (p : Stand) (x : ClientState) (y : ServerState) → client_point p.clientpoint ≡ some x → server_point p.serverpoint ≡ some y → has (rollback p) ≡ true
+pub rolls : (p : Stand) (x : ClientState) (y : ServerState) → client_point p.clientpoint ≡ Some x → server_point p.serverpoint ≡ Some y → has (rollback p) ≡ true
 unfolding rollback
 rolls p x y = go p.clientpoint p.serverpoint
   where
-    go : (g : ClientPoint) (h : ServerPoint) → client_point g ≡ some x → server_point h ≡ some y → has (back g h) ≡ true
-    go (client.To a) (server.To b) e f = refl
-    go (client.To a) server.Nowhere e f = absurd (let z : ◌≡◌ {A = ℕ} 0 1 = cc in omega arith)
-    go client.Nowhere h e f = absurd (let z : ◌≡◌ {A = ℕ} 0 1 = cc in omega arith)
+    go : (g : ClientPoint) (h : ServerPoint) → client_point g ≡ Some x → server_point h ≡ Some y → has (back g h) ≡ true
+    go (Some a) (Some b) e f = refl
+    go (Some a) None e f = absurd (let z : ◌≡◌ {A = ℕ} 0 1 = cc in omega arith)
+    go None h e f = absurd (let z : ◌≡◌ {A = ℕ} 0 1 = cc in omega arith)
 
-pub goes_back : (p q : Stand) → rollback p ≡ some q → Rolled (standing p) (standing q)
+pub goes_back : (p q : Stand) → rollback p ≡ Some q → Rolled (standing p) (standing q)
 unfolding rollback
 goes_back p q = go p.clientpoint p.serverpoint refl refl
   where
-    go : (g : ClientPoint) (h : ServerPoint) → p.clientpoint ≡ g → p.serverpoint ≡ h → back g h ≡ some q → Rolled (standing p) (standing q)
-    go (client.To a) (server.To b) e f k =
-        let z : record { client = a; clientpoint = client.Nowhere; server = b; serverpoint = server.Nowhere } ≡ q = cc in
+    go : (g : ClientPoint) (h : ServerPoint) → p.clientpoint ≡ g → p.serverpoint ≡ h → back g h ≡ Some q → Rolled (standing p) (standing q)
+    go (Some a) (Some b) e f k =
+        let z : record { client = a; clientpoint = None; server = b; serverpoint = None } ≡ q = cc in
         rw (e, f, ← z) (record { client = refl; clientpoint = refl; server = refl; serverpoint = refl })
-    go (client.To a) server.Nowhere e f k = absurd (let z : ◌≡◌ {A = ℕ} 0 1 = cc in omega arith)
-    go client.Nowhere h e f k = absurd (let z : ◌≡◌ {A = ℕ} 0 1 = cc in omega arith)
+    go (Some a) None e f k = absurd (let z : ◌≡◌ {A = ℕ} 0 1 = cc in omega arith)
+    go None h e f k = absurd (let z : ◌≡◌ {A = ℕ} 0 1 = cc in omega arith)

@@ -1,5 +1,5 @@
 -- What is seen of a session over any calls with one pair.
-use Rattle.std.proofs.Math.Option.{Option, none, some}
+use Rattle.std.specs.Prelude.{Option, None, Some, Ok, Err}
 use Rattle.behaviour.specs.declared.Behaviour.{Behaviour}
 use Rattle.stands.specs.declared.ClientState.{ClientState}
 use Rattle.stands.specs.declared.ServerState.{ServerState}
@@ -7,8 +7,7 @@ use Rattle.history.specs.Calls.{Call, message, rollback}
 use Rattle.history.specs.Demand.{Seen}
 use Rattle.history.specs.Played.{Standing, seen}
 use Rattle.session.specs.declared.Session.{Session}
-use Rattle.session.specs.declared.Answer.{Answer}
-use Rattle.session.specs.declared.Answer.TheVariants as answer
+use Rattle.session.specs.Said.{Answer}
 use Rattle.session.specs.Answers.{messaged, rolled_back}
 use Rattle.session.specs.Sides.{standing}
 
@@ -19,8 +18,8 @@ answered c s z rollback = rolled_back c s z
 
 -- the session that an answer hands back
 abbrev pub handed_back : Answer → Option Session
-handed_back (answer.Next y) = some y
-handed_back (answer.Refused f) = none
+handed_back (Ok y) = Some y
+handed_back (Err f) = None
 
 abbrev pub next : Behaviour → Behaviour → Session → Call → Option Session
 next c s z k = handed_back (answered c s z k)

@@ -2,14 +2,12 @@
 #![tactic(auto)]
 
 ghost use Rattle.std.specs.Prelude.{◌≡◌};
-ghost use Rattle.session.specs.declared.Answer.TheVariants as answer;
-ghost use Rattle.session.specs.Answers.{refused, fault, by_step, messaged, rolled_back};
-ghost use Rattle.session.specs.Opening.{opened, not_opened, Opens};
+ghost use Rattle.session.specs.Answers.{fault, stepped, messaged, rolled_back};
+ghost use Rattle.session.specs.Opening.{not_opened, Opens};
 
-use behaviour::{Behaviour, Refusal};
-use stands::{ClientPoint, ClientState, ServerPoint, ServerState, Stand};
-use steps::Next;
-use verdict::Verdict;
+use behaviour::{Behaviour, Reason, Refusal};
+use stands::{ClientState, ServerState, Stand};
+use verdict::Judgement;
 
 // Where both sides stand, with their return points: four small numbers.
 #[derive(Clone, Copy)]
@@ -17,108 +15,76 @@ pub struct Session {
     pub stand: Stand,
 }
 
-// "either the next session or a refusal with its number and place"
-#[derive(Clone, Copy)]
-pub enum Answer {
-    Next(Session),
-    Refused(Refusal),
-}
-
-fn refuse(number: u8) -> Answer
-    ensures { result ≡ refused number }
-{
-    Answer::Refused(behaviour::refuse(number, 0))
-}
-
-// 13, 15, or 0 for neither.
-fn fault_in(client: Behaviour, server: Behaviour, p: Stand) -> u8
+// Does some accepted file give each of the two, and is the stand one of theirs?
+// Kept: client and server by value, one by one, here and below, since `fault`, `messaged`, `rolled_back` and `Opens` name each.
+#[tactic(auto, unfolding(crate::specs::Answers::fault))]
+fn check(client: Behaviour, server: Behaviour, p: Stand) -> Result<(), Reason>
     ensures { result ≡ fault client server p }
 {
-    if !behaviour::is_sound(client) {
-        return 13;
-    }
-    if !behaviour::is_sound(server) {
-        return 13;
+    if !behaviour::is_sound(&client) || !behaviour::is_sound(&server) {
+        return Err(Reason::NoFileGivesIt);
     }
     if !steps::is_stand(client, server, p) {
-        return 15;
+        return Err(Reason::NoStand);
     }
-    0
+    Ok(())
 }
 
-// The next session, or the refusal where there is no step.
-fn answer_of(step: Next, number: u8) -> Answer
-    ensures { result ≡ by_step number step }
-{
-    match step {
-        Next::Off => refuse(number),
-        Next::Stand(p) => Answer::Next(Session { stand: p }),
-    }
-}
-
-// Both at state 0, both return points none.
-fn begin() -> Answer
-    ensures { result ≡ answer.Next opened }
-{
-    Answer::Next(Session {
-        stand: Stand {
-            client: ClientState(0),
-            clientpoint: ClientPoint::Nowhere,
-            server: ServerState(0),
-            serverpoint: ServerPoint::Nowhere,
-        },
-    })
-}
-
-// 14 where the run did not fit, else the verdict's own refusal.
-fn refused_open(f: Refusal) -> Answer
+// A verdict's refusal, to an opening: 14 where the run did not fit.
+fn refused_open(f: Refusal) -> Refusal
     ensures { result ≡ not_opened f }
 {
-    let k = f.number;
-    if k == 12 {
-        return refuse(14);
+    match f.reason {
+        Reason::LongerThanLent => Reason::NotCompliant.into(),
+        _ => f,
     }
-    Answer::Refused(f)
 }
 
-// The start, if the pair may be joined.
-pub fn open(client: Behaviour, server: Behaviour) -> Answer
+// The start, if the pair may be joined: both at state 0, both return points none.
+#[tactic(auto, unfolding(crate::specs::Opening::Opens))]
+pub fn open(client: Behaviour, server: Behaviour) -> Result<Session, Refusal>
     ensures { Opens client server result }
 {
     let mut run: [u8; 1] = [0; 1];
     match verdict::judge(client, server, &mut run) {
-        Verdict::Compliant(_) => begin(),
-        Verdict::Stuck(_, _) => refuse(14),
-        Verdict::Refused(f) => refused_open(f),
+        Ok(Judgement::Compliant(_)) => Ok(Session {
+            stand: Stand {
+                client: ClientState(0),
+                clientpoint: None,
+                server: ServerState(0),
+                serverpoint: None,
+            },
+        }),
+        Ok(Judgement::Stuck(_, _)) => Err(Reason::NotCompliant.into()),
+        Err(f) => Err(refused_open(f)),
     }
 }
 
 impl Session {
     // Both sides move by the message of this name.
-    pub fn message(self, client: Behaviour, server: Behaviour, name: &[u8]) -> Answer
+    #[tactic(auto, unfolding(crate::specs::Answers::messaged, crate::specs::Answers::named))]
+    pub fn message(
+        self,
+        client: Behaviour,
+        server: Behaviour,
+        name: &[u8],
+    ) -> Result<Session, Refusal>
         ensures { result ≡ messaged client server self name.now }
     {
-        let p = self.stand;
-        let f = fault_in(client, server, p);
-        if f != 0 {
-            return refuse(f);
-        }
-        let n = names::number_of(name, 0);
-        if n == 0 {
-            return refuse(16);
-        }
-        answer_of(steps::message_step(client, server, p, n), 16)
+        check(client, server, self.stand)?;
+        let n = names::name_of(name).ok_or(Reason::MessageNotPossible)?;
+        let step = steps::message_step(client, server, self.stand, n);
+        let stand = step.ok_or(Reason::MessageNotPossible)?;
+        Ok(Session { stand })
     }
 
     // Both sides go back to their return points, which become none.
-    pub fn rollback(self, client: Behaviour, server: Behaviour) -> Answer
+    #[tactic(auto, unfolding(crate::specs::Answers::rolled_back))]
+    pub fn rollback(self, client: Behaviour, server: Behaviour) -> Result<Session, Refusal>
         ensures { result ≡ rolled_back client server self }
     {
-        let p = self.stand;
-        let f = fault_in(client, server, p);
-        if f != 0 {
-            return refuse(f);
-        }
-        answer_of(steps::rollback_step(p), 17)
+        check(client, server, self.stand)?;
+        let stand = steps::rollback_step(self.stand).ok_or(Reason::RollbackNotPossible)?;
+        Ok(Session { stand })
     }
 }

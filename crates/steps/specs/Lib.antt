@@ -1,3 +1,2 @@
 -- What `steps` means: its definitions and their laws.
-pub mod Next
 pub mod Tests

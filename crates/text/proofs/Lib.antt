@@ -1,4 +1,5 @@
 -- The laws that the proofs of `text` share.
 pub mod Puts
 pub mod Digits
-pub mod Onward
+pub mod Names
+pub mod Fronts

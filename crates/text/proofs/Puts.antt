@@ -1,63 +1,58 @@
 -- Texts put one after the other.
-use mathlib.Core.Path.{◌≡◌, refl, sym, ap, ◌∙◌}
-use mathlib.Core.List.{List, [], ◌∷◌, ◌++◌}
-use Prim.Native.Nat.{ℕ, ◌+◌, ◌<◌, ◌≤◌}
-use native.Mathlib.Omega.{arith}
+use Rattle.std.proofs.Common.{◌≡◌, refl, sym, ◌∙◌, List, [], ◌∷◌, ◌++◌, ℕ, ◌+◌, ◌<◌, arith, length, length-append, get_or, take}
 use native.Mathlib.Numerals.{add-one}
-use native.Mathlib.Nat.{zero-add}
-use lib.ListN.{length, set, get_or, take, drop, length-append}
-use lib.Seq.{sets-eq, length-sets, set_out, take-suc, take_all, length-take-le}
+use lib.Seq.{take-suc}
 use Rattle.names.specs.Places.{sets-append}
-use Rattle.text.specs.Putting.{Short, Put}
+use Rattle.text.specs.declared.Text.{Text}
+use Rattle.text.specs.Putting.{Short, Put, Puts}
+
+pub short-first : {at : ℕ} (w v : List ℕ) → Short at (w ++ v) → Short at w
+short-first w v s = let l = length-append w v in let y = s.ends in record { ends = omega arith }
 
 module _ {b : List ℕ} {at : ℕ} where
-  pub put-nothing : Put b at [] at b
-  put-nothing = record { place = omega arith; bytes = refl }
-
-  pub put-past : {c : ℕ} → length b ≤ at → Put b at (c ∷ []) (at + 1) b
-  put-past {c} h = record { place = refl; bytes = sym (set_out b at c h) }
-
-  pub put_one : {c : ℕ} → Put b at (c ∷ []) (at + 1) (set b at c)
-  put_one = record { place = refl; bytes = refl }
-
-  pub put_as : {w v : List ℕ} {r : ℕ} {e : List ℕ} → w ≡ v → Put b at w r e → Put b at v r e
-  put_as f h = rw f at h
-
-  pub put-length : {w : List ℕ} {r : ℕ} {e : List ℕ} → Put b at w r e → length e ≡ length b
-  put-length {w} h = ap length h.bytes ∙ length-sets b at w
-
   -- w, and after it v
-  pub put_then : {w v : List ℕ} {m r : ℕ} {a e : List ℕ} → Put b at w m a → Put a m v r e → Put b at (w ++ v) r e
+  put_then : {w v : List ℕ} {m r : ℕ} {a e : List ℕ} → Put b at w m a → Put a m v r e → Put b at (w ++ v) r e
   put_then {w} {v} h k = record {
     place = (let x = h.place in let y = k.place in let l = length-append w v in omega arith);
     bytes = k.bytes ∙ rw (h.bytes, h.place) (sym (sets-append b at w v));
   }
 
   -- the second of two has room where both have
-  pub short-next : {w : List ℕ} {m : ℕ} {a : List ℕ} (v : List ℕ) → Short at (w ++ v) → Put b at w m a → Short m v
+  short-next : {w : List ℕ} {m : ℕ} {a : List ℕ} (v : List ℕ) → Short at (w ++ v) → Put b at w m a → Short m v
   short-next {w} v s h = let x = h.place in let l = length-append w v in let y = s.ends in record { ends = omega arith }
 
--- a whole text, at the buffer's beginning
-module _ {b w : List ℕ} {r : ℕ} {e : List ℕ} (p : Put b 0 w r e) where
-  pub front_length : r ≡ length w
-  front_length = omega (arith, p.place)
+module _ {o : Text} where
+  pub puts-nothing : Puts o [] o
+  puts-nothing = record { put = λ s. record { place = omega arith; bytes = refl }; same = refl }
 
-  pub front_bytes : length w ≤ length b → e ≡ w ++ drop (length w) b
-  front_bytes h = p.bytes ∙ rw (zero-add (length w)) at (sets-eq w b 0 (omega arith))
+  pub puts_as : {w v : List ℕ} {n : Text} → w ≡ v → Puts o w n → Puts o v n
+  puts_as f h = rw f at h
 
-pub short-first : {at : ℕ} (w v : List ℕ) → Short at (w ++ v) → Short at w
-short-first w v s = let l = length-append w v in let y = s.ends in record { ends = omega arith }
+  -- w, and after it v
+  pub puts_then : {w v : List ℕ} {m n : Text} → Puts o w m → Puts m v n → Puts o (w ++ v) n
+  puts_then {w} {v} h k = record {
+    put = λ s. let p = h.put (short-first w v s) in put_then p (k.put (short-next v s p));
+    same = k.same ∙ h.same;
+  }
 
-pub short_as : {at : ℕ} {w v : List ℕ} → w ≡ v → Short at w → Short at v
-short_as f h = rw f at h
+  -- the bytes of w, one after the other
+  pub puts-next : (w : List ℕ) (j : ℕ) {m n : Text} → j < length w → Puts o (take j w) m → Puts m (get_or w j 0 ∷ []) n → Puts o (take (j + 1) w) n
+  puts-next w j h p q = rw (add-one j, take-suc w j 0 h) (puts_then p q)
 
--- the bytes of w, one after the other
-module _ {b : List ℕ} {at : ℕ} (w : List ℕ) (j : ℕ) where
-  pub bytes-short : {m : ℕ} {a : List ℕ} (c : ℕ) → j < length w → Short at w → Put b at (take j w) m a → Short m (c ∷ [])
-  bytes-short c h s p = record { ends = omega (arith, s.ends, p.place, length-take-le j w (omega arith)) }
+-- of the text w, to be put into o, the part v is left, to be put into m
+pub record Onward (o : Text) (w : List ℕ) (m : Text) (v : List ℕ) : Type 0 where
+  pub ends : {n : Text} → Puts m v n → Puts o w n
 
-  pub bytes-more : {m r : ℕ} {a e : List ℕ} → j < length w → Put b at (take j w) m a → Put a m (get_or w j 0 ∷ []) r e → Put b at (take (j + 1) w) r e
-  bytes-more h p q = rw (add-one j, take-suc w j 0 h) (put_then p q)
+pub onward-start : {o : Text} {w : List ℕ} → Onward o w o w
+onward-start = record { ends = λ p. p }
 
-  pub bytes-all : {r : ℕ} {e : List ℕ} → length w ≤ j → Put b at (take j w) r e → Put b at w r e
-  bytes-all h p = put_as (take_all j w h) p
+module _ {o : Text} {w : List ℕ} {m : Text} {x : List ℕ} (g : Onward o w m x) where
+  -- v of it is put
+  pub onward-step : {v u : List ℕ} {n : Text} → x ≡ v ++ u → Puts m v n → Onward o w n u
+  onward-step e p = record { ends = λ q. g.ends (puts_as (sym e) (puts_then p q)) }
+
+  pub onward-last : {v : List ℕ} {n : Text} → x ≡ v → Puts m v n → Puts o w n
+  onward-last e p = g.ends (puts_as (sym e) p)
+
+  pub onward-end : x ≡ [] → Puts o w m
+  onward-end e = onward-last e puts-nothing

@@ -1,141 +1,157 @@
-// A text put into a lent buffer piece by piece, as the AUT writers spell it. Each piece asks its caller that the text ends below 2^32.
+// A text put into a lent buffer piece by piece, as the AUT writers spell it.
 #![tactic(auto)]
 
-ghost use Rattle.std.specs.Prelude.{◌≡◌, ◌∷◌, [], ◌<◌};
-ghost use Rattle.names.specs.Names.{name_text};
-ghost use Rattle.text.specs.Putting.{Short, Put};
+ghost use Rattle.std.specs.Prelude.{◌≡◌, List, ◌∷◌, [], ℕ, ◌<◌};
+ghost use Rattle.names.specs.Names.{text_of};
+ghost use Rattle.text.specs.Putting.{Short, Puts};
+ghost use Rattle.text.specs.Fronts.{Fronts};
 ghost use Rattle.text.specs.Spelling.{decimal_of, tens, label_text, message_label, opening, closing, line_text, head_text};
 
 use tokens::{Label, Line};
 
-// The byte `b`.
-pub fn put(buf: &mut [u8], at: usize, b: u8) -> usize
-    requires { Short at (b ∷ []) }
-    ensures { Put buf.old at (b ∷ []) result buf.new }
-{
-    if buf.len() <= at {
-        return at + 1;
-    }
-    buf[at] = b;
-    at + 1
+// A lent buffer, and the place in it of the next byte.
+// Kept: methods that put text, and no `Display`: of what a `Display` writes a proof learns something in a `String` alone, and the project has no
+// heap. The contracts here say every byte.
+#[derive(Drop)]
+pub struct Text<'a> {
+    pub buf: &'a mut [u8],
+    pub at: usize,
 }
 
-// The bytes `w`.
-pub fn put_bytes(buf: &mut [u8], at: usize, w: &[u8]) -> usize
-    requires { Short at w.now }
-    ensures { Put buf.old at w.now result buf.new }
-{
-    let mut place = at;
-    let mut j = 0;
-    while j < w.len() {
-        place = put(buf, place, w[j]);
-        j += 1;
+impl Text<'_> {
+    // The byte `b`. One past the buffer's end is counted all the same, so that a text put into any buffer gives its length.
+    pub fn put(&mut self, b: u8)
+        ensures { Puts self.old (b ∷ []) self.new }
+    {
+        if self.at < self.buf.len() {
+            self.buf[self.at] = b;
+        }
+        self.at = self.at.saturating_add(1);
     }
-    place
-}
 
-// `n` in decimal, with at most `k` digits before its last.
-pub fn put_decimal(buf: &mut [u8], at: usize, k: usize, n: usize) -> usize
-    requires n_bound { n < tens k }
-    requires short { Short at (decimal_of k n) }
-    ensures { Put buf.old at (decimal_of k n) result buf.new }
-{
-    if n < 10 {
-        return put(buf, at, (48 + n) as u8);
+    // The bytes `w`.
+    pub fn put_bytes(&mut self, w: &[u8])
+        ensures { Puts self.old w.now self.new }
+    {
+        for &b in w {
+            self.put(b);
+        }
     }
-    let m = put_decimal(buf, at, k - 1, n / 10);
-    put(buf, m, (48 + n % 10) as u8)
-}
 
-// The name `n` of at most `k` bytes.
-fn put_name(buf: &mut [u8], at: usize, k: usize, n: u64) -> usize
-    requires { Short at (name_text k n) }
-    ensures { Put buf.old at (name_text k n) result buf.new }
-{
-    if k == 0 {
-        return at;
+    // `n` in decimal, with at most `k` digits before its last.
+    // Kept: it calls itself, as `decimal_of` does. The last digit is found first and put last, so a loop would need a buffer to turn them round.
+    // Kept: a cast, which is proved to fit; `try_from` would ask for an answer that never comes.
+    pub fn put_decimal(&mut self, k: usize, n: usize)
+        requires { n < tens k }
+        ensures { Puts self.old (decimal_of k n) self.new }
+    {
+        if n >= 10 {
+            self.put_decimal(k - 1, n / 10);
+        }
+        self.put(b'0' + (n % 10) as u8);
     }
-    let m = put_name(buf, at, k - 1, n / 256);
-    let c = n % 256;
-    if c == 0 {
-        return m;
+
+    // The name `n`: the zeros behind its bytes are not of it.
+    fn put_name(&mut self, n: u64)
+        ensures { Puts self.old (text_of n) self.new }
+    {
+        for b in n.to_be_bytes() {
+            if b != 0 {
+                self.put(b);
+            }
+        }
     }
-    put(buf, m, c as u8)
-}
 
-// A label's sign and its name.
-fn put_signed(buf: &mut [u8], at: usize, sign: u8, n: u64) -> usize
-    requires { Short at (sign ∷ name_text 8 n) }
-    ensures { Put buf.old at (sign ∷ name_text 8 n) result buf.new }
-{
-    let m = put(buf, at, sign);
-    put_name(buf, m, 8, n)
-}
+    pub fn put_label(&mut self, l: Label)
+        ensures { Puts self.old (label_text l) self.new }
+    {
+        match l {
+            Label::Mark => self.put_bytes(b"ckp"),
+            Label::Take(n) => {
+                self.put(b'?');
+                self.put_name(n);
+            }
+            Label::Send(n) => {
+                self.put(b'!');
+                self.put_name(n);
+            }
+            Label::Other => {}
+        }
+    }
 
-fn put_label(buf: &mut [u8], at: usize, l: Label) -> usize
-    requires { Short at (label_text l) }
-    ensures { Put buf.old at (label_text l) result buf.new }
-{
-    match l {
-        Label::Mark => put_bytes(buf, at, b"ckp"),
-        Label::Take(n) => put_signed(buf, at, b'?', n),
-        Label::Send(n) => put_signed(buf, at, b'!', n),
-        Label::Other => at,
+    // Kept: a bound of digits in four contracts: it is of a number that is put, and no value keeps it, so a type would be made for one call each time.
+    pub fn put_opening(&mut self, f: usize)
+        requires { f < tens 4 }
+        ensures { Puts self.old (opening f) self.new }
+    {
+        self.put(b'(');
+        self.put_decimal(4, f);
+        self.put_bytes(b",\"");
+    }
+
+    pub fn put_closing(&mut self, g: usize)
+        requires { g < tens 4 }
+        ensures { Puts self.old (closing g) self.new }
+    {
+        self.put_bytes(b"\",");
+        self.put_decimal(4, g);
+        self.put_bytes(b")\n");
+    }
+
+    pub fn put_line(&mut self, l: Line)
+        requires from_bound { l.from < tens 4 }
+        requires to_bound { l.to < tens 4 }
+        ensures { Puts self.old (line_text l) self.new }
+    {
+        self.put_opening(l.from);
+        self.put_label(l.label);
+        self.put_closing(l.to);
+    }
+
+    // The first line, of T and S.
+    pub fn put_head(&mut self, t: usize, s: usize)
+        requires t_bound { t < tens 4 }
+        requires s_bound { s < tens 4 }
+        ensures { Puts self.old (head_text t s) self.new }
+    {
+        self.put_bytes(b"des (0,");
+        self.put_decimal(4, t);
+        self.put(b',');
+        self.put_decimal(4, s);
+        self.put_bytes(b")\n");
     }
 }
 
 // The label of the message `n` at a state of that sign.
+// Kept: the sign is a number and no enum, as the value has it, and the clause promises `message_label sign n` of every number.
 pub fn label_of(sign: u8, n: u64) -> Label
     ensures { result ≡ message_label sign n }
 {
-    if sign == 1 {
-        return Label::Take(n);
+    match sign {
+        1 => Label::Take(n),
+        _ => Label::Send(n),
     }
-    Label::Send(n)
 }
 
-pub fn put_opening(buf: &mut [u8], at: usize, f: usize) -> usize
-    requires f_bound { f < tens 4 }
-    requires short { Short at (opening f) }
-    ensures { Put buf.old at (opening f) result buf.new }
+// The text that `put` puts, at the front of `out`: its length, or none if `out` has no room for it. It is put twice, for its length first,
+// into no bytes, so that nothing is written where there is no room.
+pub fn put_front<F: Fn(&mut Text)>(out: &mut [u8], put: F) -> Option<usize>
+    ghost w: { List ℕ }
+    requires callable { F.IsAlwaysCallable put }
+    requires spells { (o : _) (n : _) → F.post put o tt n → Puts o.now w n.now }
+    requires short { Short 0 w }
+    ensures { Fronts w out.old result out.new }
 {
-    let a = put(buf, at, b'(');
-    let b = put_decimal(buf, a, 4, f);
-    put_bytes(buf, b, b",\"")
-}
-
-pub fn put_closing(buf: &mut [u8], at: usize, g: usize) -> usize
-    requires g_bound { g < tens 4 }
-    requires short { Short at (closing g) }
-    ensures { Put buf.old at (closing g) result buf.new }
-{
-    let a = put_bytes(buf, at, b"\",");
-    let b = put_decimal(buf, a, 4, g);
-    put_bytes(buf, b, b")\n")
-}
-
-pub fn put_line(buf: &mut [u8], at: usize, l: Line) -> usize
-    requires from_bound { l.from < tens 4 }
-    requires to_bound { l.to < tens 4 }
-    requires short { Short at (line_text l) }
-    ensures { Put buf.old at (line_text l) result buf.new }
-{
-    let a = put_opening(buf, at, l.from);
-    let label = l.label;
-    let b = put_label(buf, a, label);
-    put_closing(buf, b, l.to)
-}
-
-// The first line, of T and S.
-pub fn put_head(buf: &mut [u8], at: usize, t: usize, s: usize) -> usize
-    requires t_bound { t < tens 4 }
-    requires s_bound { s < tens 4 }
-    requires short { Short at (head_text t s) }
-    ensures { Put buf.old at (head_text t s) result buf.new }
-{
-    let a = put_bytes(buf, at, b"des (0,");
-    let b = put_decimal(buf, a, 4, t);
-    let c = put(buf, b, b',');
-    let d = put_decimal(buf, c, 4, s);
-    put_bytes(buf, d, b")\n")
+    let mut length = Text {
+        buf: &mut [],
+        at: 0,
+    };
+    put(&mut length);
+    let n = length.at;
+    if out.len() < n {
+        return None;
+    }
+    let mut text = Text { buf: out, at: 0 };
+    put(&mut text);
+    Some(n)
 }

@@ -1,14 +1,8 @@
--- The definitions `digits` and `number` at a position, and a number's bound.
-use mathlib.Core.Path.{◌≡◌, refl}
-use mathlib.Core.List.{List}
-use Prim.Native.Nat.{ℕ, zero, suc, ◌+◌, ◌*◌, ◌-◌, ◌/◌, ◌<◌, ◌≤◌}
-use native.Mathlib.Numerals.{sub-one}
-use native.Mathlib.Omega.{arith}
-use borrow.Author.Tests.{eq-eqb, ne_eqb, le-leb, lt-leb}
-use lib.ListN.{length, get_or, drop, drop_of_length-le}
+-- The definition `digits` at a list by its first byte, and a number's bound.
+use Rattle.std.proofs.Common.{◌≡◌, refl, true, false, List, [], ◌∷◌, ℕ, zero, suc, ◌+◌, ◌*◌, ◌-◌, ◌/◌, ◌<◌, ◌≤◌, length, arith}
+use Rattle.std.proofs.Math.Numerals.{sub-one}
 use Rattle.tokens.specs.Parse.{got, off}
-use Rattle.tokens.specs.Tokens.{digits, number}
-use Rattle.names.specs.Places.{here}
+use Rattle.tokens.specs.Tokens.{is_digit, digits, number}
 
 -- what a number's beginning is below where k digits more may follow
 unfoldable pub cap : ℕ → ℕ
@@ -25,51 +19,27 @@ unfolding cap
 cap-more zero v d p h e = absurd (omega arith)
 cap-more (suc k) v d p h e = rw sub-one (omega arith)
 
-pub digits-none : (v : ℕ) (s : List ℕ) (k : ℕ) → k ≤ 0 → got v s ≡ digits k v s
+pub digits-zero : (k v : ℕ) (s : List ℕ) → k ≡ 0 → digits k v s ≡ got v s
 unfolding digits
-digits-none v s zero h = refl
-digits-none v s (suc k) h = absurd (omega arith)
+digits-zero k v s h = rw h
 
-module _ (s : List ℕ) (i v : ℕ) where
-  pub digits-end : (k : ℕ) → length s ≤ i → got v (drop i s) ≡ digits k v (drop i s)
-  unfolding digits
-  digits-end zero h = refl
-  digits-end (suc k) h = rw (drop_of_length-le s h)
+pub digits-end : (k v : ℕ) (s : List ℕ) → length s ≡ 0 → digits k v s ≡ got v s
+unfolding digits
+digits-end zero v s h = refl
+digits-end (suc k) v [] h = refl
+digits-end (suc k) v (b ∷ s) h = absurd (omega arith)
 
-  pub digits_low : (k : ℕ) → i < length s → get_or s i 0 < 48 → got v (drop i s) ≡ digits k v (drop i s)
-  unfolding digits
-  digits_low zero h l = refl
-  digits_low (suc k) h l = rw (here 0 s i h, lt-leb 48 _ l)
+pub digits-stop : (k v b : ℕ) (s t : List ℕ) → s ≡ b ∷ t → is_digit b ≡ false → digits k v s ≡ got v s
+unfolding digits
+digits-stop zero v b s t e h = refl
+digits-stop (suc k) v b s t e h = rw e (rw h)
 
-  pub digits-high : (k : ℕ) → i < length s → 48 ≤ get_or s i 0 → 57 < get_or s i 0 → got v (drop i s) ≡ digits k v (drop i s)
-  unfolding digits
-  digits-high zero h l m = refl
-  digits-high (suc k) h l m = rw (here 0 s i h, le-leb 48 _ l, lt-leb _ 57 m)
+pub digits-more : (k v b : ℕ) (s t : List ℕ) → s ≡ b ∷ t → is_digit b ≡ true → 0 < k → digits k v s ≡ digits (k - 1) (v * 10 + (b - 48)) t
+unfolding digits
+digits-more zero v b s t e h p = absurd (omega arith)
+digits-more (suc k) v b s t e h p = rw e (rw (h, sub-one))
 
-  pub digits_more : (k : ℕ) → 0 < k → i < length s → 48 ≤ get_or s i 0 → get_or s i 0 ≤ 57
-      → digits k v (drop i s) ≡ digits (k - 1) (v * 10 + (get_or s i 0 - 48)) (drop (i + 1) s)
-  unfolding digits
-  digits_more zero p h l m = absurd (omega arith)
-  digits_more (suc k) p h l m = rw (here 0 s i h, le-leb 48 _ l, le-leb _ 57 m, sub-one)
-
-module _ (s : List ℕ) (i : ℕ) where
-  pub number-end : length s ≤ i → off ≡ number (drop i s)
-  unfolding number
-  number-end h = rw (drop_of_length-le s h)
-
-  pub number-zero : i < length s → get_or s i 0 ≡ 48 → got 0 (drop (i + 1) s) ≡ number (drop i s)
-  unfolding number
-  number-zero h e = rw (here 0 s i h, eq-eqb _ _ e)
-
-  pub number-low : i < length s → get_or s i 0 < 48 → off ≡ number (drop i s)
-  unfolding number
-  number-low h l = rw (here 0 s i h, ne_eqb (get_or s i 0) 48 (omega arith), lt-leb 48 _ l)
-
-  pub number-high : i < length s → 57 < get_or s i 0 → off ≡ number (drop i s)
-  unfolding number
-  number-high h m = rw (here 0 s i h, ne_eqb (get_or s i 0) 48 (omega arith), le-leb 48 (get_or s i 0) (omega arith), lt-leb _ 57 m)
-
-  pub number_more : i < length s → (get_or s i 0 ≡ 48 → ⊥) → 48 ≤ get_or s i 0 → get_or s i 0 ≤ 57
-      → digits 4 (get_or s i 0 - 48) (drop (i + 1) s) ≡ number (drop i s)
-  unfolding number
-  number_more h n l m = rw (here 0 s i h, ne_eqb _ _ n, le-leb 48 _ l, le-leb _ 57 m)
+pub number-end : (s : List ℕ) → length s ≡ 0 → number s ≡ off
+unfolding number
+number-end [] h = refl
+number-end (b ∷ s) h = absurd (omega arith)

@@ -1,51 +1,53 @@
 -- The definition `label`, by the tests that the code makes.
-use mathlib.Core.Path.{◌≡◌, refl}
-use mathlib.Core.List.{List, [], ◌∷◌}
-use Prim.Native.Nat.{ℕ, ◌<◌, ◌≤◌}
-use native.Mathlib.Omega.{arith}
-use borrow.Author.Tests.{eq-eqb, ne_eqb}
-use lib.Dec.{eqb}
-use lib.ListN.{length, get_or, drop, drop_of_length-le}
+use Rattle.std.proofs.Common.{◌≡◌, ◌≢◌, refl, sym, ap, ◌∙◌, List, [], ◌∷◌, ◌++◌, ℕ, Bool, true, false, ⊎_elim, eqb, length, arith}
+use Rattle.std.specs.Prelude.{Option, Some, None}
 use Rattle.names.specs.If.{if}
 use Rattle.names.specs.Names.{name_number}
 use Rattle.tokens.specs.declared.Label.{Label}
-use Rattle.tokens.specs.declared.Label.TheVariants.{Mark, Other}
-use Rattle.tokens.specs.Parse.{Got, got, nothing, Nothing}
-use Rattle.tokens.specs.Tokens.{word, taken, sent, marked, label}
-use Rattle.names.specs.Places.{here}
+use Rattle.tokens.specs.declared.Label.TheVariants.{Mark, Take, Send, Other}
+use Rattle.tokens.specs.Parse.{got, nothing}
+use Rattle.tokens.specs.Tokens.{word, byte, marked, label}
+use Rattle.tokens.proofs.Laws.{word-found_or_off}
 
-pub label-none : (s : List ℕ) → length s ≡ 0 → Other ≡ label s
+abbrev pub ckp : List ℕ
+ckp = 99 ∷ 107 ∷ 112 ∷ []
+
+pub label-none : (s : List ℕ) → length s ≡ 0 → label s ≡ Other
 unfolding label
 label-none [] h = refl
 label-none (c ∷ s) h = absurd (omega arith)
 
--- a sign and what follows it
-module _ (n : ℕ) where
-  pub take-label : (s : List ℕ) → (length s ≡ 0 → ⊥) → get_or s 0 0 ≡ 63 → n ≡ name_number (drop 1 s) → taken n ≡ label s
-  unfolding label
-  take-label [] h e f = absurd (h refl)
-  take-label (c ∷ s) h e f = rw (eq-eqb c _ e, ← f)
+pub label-ckp : (s : List ℕ) → s ≡ ckp → label s ≡ Mark
+unfolding label word byte
+label-ckp s e = rw e
 
-  pub send_label : (s : List ℕ) → (length s ≡ 0 → ⊥) → get_or s 0 0 ≡ 33 → n ≡ name_number (drop 1 s) → sent n ≡ label s
-  unfolding label
-  send_label [] h e f = absurd (h refl)
-  send_label (c ∷ s) h e f = rw (ne_eqb c 63 (omega arith), eq-eqb c _ e, ← f)
+marked-more : (s t : List ℕ) → s ≢ ckp → s ≡ ckp ++ t → marked (got nothing t) ≡ Other
+marked-more s [] h e = absurd (h e)
+marked-more s (c ∷ t) h e = refl
 
-  pub no_name : (l : Label) → n ≡ 0 → Other ≡ if (eqb n 0) Other l
-  no_name l z = rw (eq-eqb n 0 z)
+-- the word `ckp` and more, or another beginning
+marked-other : (s : List ℕ) → s ≢ ckp → marked (word ckp s) ≡ Other
+marked-other s h =
+    ⊎_elim (λ f. ap marked f.2 ∙ marked-more s f.0 h f.1) (λ e. ap marked e) (word-found_or_off ckp s)
 
-  pub a-name : (l : Label) → (n ≡ 0 → ⊥) → l ≡ if (eqb n 0) Other l
-  a-name l z = rw (ne_eqb n 0 z)
+-- what a sign and a name say: p and q tell which sign it is
+abbrev pub spoken : Bool → Bool → Option ℕ → Label
+spoken p q None = Other
+spoken p q (Some n) = if p (Take n) (if q (Send n) Other)
 
--- neither sign: what the word `ckp` leaves decides
-pub label-word : (s : List ℕ) (g : Got Nothing) → (length s ≡ 0 → ⊥) → (get_or s 0 0 ≡ 63 → ⊥) → (get_or s 0 0 ≡ 33 → ⊥)
-    → g ≡ word (99 ∷ 107 ∷ 112 ∷ []) (drop 0 s) → marked g ≡ label s
+-- as `label` says it, by the name's number
+by_number : (p q b : Bool) (n : ℕ) → if p (if b Other (Take n)) (if q (if b Other (Send n)) Other) ≡ spoken p q (if b None (Some n))
+by_number true q true n = refl
+by_number true q false n = refl
+by_number false true true n = refl
+by_number false true false n = refl
+by_number false false true n = refl
+by_number false false false n = refl
+
+-- by the first byte, and the name after it
+pub label-sign : (s t : List ℕ) (c : ℕ) (o : Option ℕ) → s ≡ c ∷ t → o ≡ if (eqb (name_number t) 0) None (Some (name_number t)) → s ≢ ckp
+    → label s ≡ spoken (eqb c 63) (eqb c 33) o
 unfolding label
-label-word [] g h t d e = absurd (h refl)
-label-word (c ∷ s) g h t d e = rw (ne_eqb c _ t, ne_eqb c _ d, ← e)
-
-pub marked-end : (s : List ℕ) (n : ℕ) → length s ≤ n → Mark ≡ marked (got nothing (drop n s))
-marked-end s n h = rw (drop_of_length-le s h)
-
-pub marked_more : (s : List ℕ) (n : ℕ) → n < length s → Other ≡ marked (got nothing (drop n s))
-marked_more s n h = rw (here 0 s n h)
+label-sign s t c o e f h =
+    let w : marked (word ckp (c ∷ t)) ≡ Other = ap (λ (l : List ℕ). marked (word ckp l)) (sym e) ∙ marked-other s h in
+    rw (e, f) (rw w (by_number (eqb c 63) (eqb c 33) (eqb (name_number t) 0) (name_number t)))

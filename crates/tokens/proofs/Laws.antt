@@ -1,48 +1,35 @@
--- The definitions `spaces`, `byte` and `word` at a position.
-use mathlib.Core.Path.{◌≡◌}
-use mathlib.Core.List.{List}
-use Prim.Native.Nat.{ℕ, ◌+◌, ◌<◌, ◌≤◌}
-use borrow.Author.Tests.{eq-eqb, ne_eqb}
-use lib.ListN.{length, get_or, drop, drop_of_length-le}
-use Rattle.names.specs.Places.{here}
+-- The definitions at a list by its first byte, and at a word that comes first.
+use Rattle.std.proofs.Common.{◌≡◌, ◌≢◌, refl, ap, ◌∙◌, List, [], ◌∷◌, ◌++◌, ℕ, Bool, true, false, eqb, length, arith, eqb-true, ◌⊎◌, inl, inr, ⊎_elim, MatchOption, Option, Some, None}
+use Rattle.std.proofs.Common.{eq-eqb}
+use denote.Bor.{Bor}
 use Rattle.tokens.specs.Parse.{got, off, nothing}
-use Rattle.tokens.specs.Tokens.{spaces, byte, word}
+use Rattle.tokens.specs.Tokens.{byte, word}
 
-module _ (s : List ℕ) (i : ℕ) where
-  pub spaces-end : length s ≤ i → drop i s ≡ spaces (drop i s)
-  unfolding spaces
-  spaces-end h = rw (drop_of_length-le s h)
+pub byte-end : (b : ℕ) (s : List ℕ) → length s ≡ 0 → byte b s ≡ off
+unfolding byte
+byte-end b [] h = refl
+byte-end b (c ∷ s) h = absurd (omega arith)
 
-  pub spaces-stop : i < length s → (get_or s i 0 ≡ 32 → ⊥) → drop i s ≡ spaces (drop i s)
-  unfolding spaces
-  spaces-stop h n = rw (here 0 s i h, ne_eqb _ _ n)
+pub word-append : (w r : List ℕ) → word w (w ++ r) ≡ got nothing r
+unfolding word byte
+word-append [] r = refl
+word-append (c ∷ w) r = rw (eq-eqb c c refl) (word-append w r)
 
-  pub spaces-more : i < length s → get_or s i 0 ≡ 32 → spaces (drop i s) ≡ spaces (drop (i + 1) s)
-  unfolding spaces
-  spaces-more h e = rw (here 0 s i h, eq-eqb _ _ e)
+-- a list begins with the word w, or w isn't found in it
+pub word-found_or_off : (w s : List ℕ) → ((t : List ℕ) × (s ≡ w ++ t) × (word w s ≡ got nothing t)) ⊎ (word w s ≡ off)
+unfolding word byte
+word-found_or_off [] s = inl (s, refl, refl)
+word-found_or_off (c ∷ w) [] = inr refl
+word-found_or_off (c ∷ w) (d ∷ s) = go (eqb d c) refl (word-found_or_off w s)
+  where
+    go : (b : Bool) → eqb d c ≡ b → ((t : List ℕ) × (s ≡ w ++ t) × (word w s ≡ got nothing t)) ⊎ (word w s ≡ off)
+        → ((t : List ℕ) × (d ∷ s ≡ c ∷ (w ++ t)) × (word (c ∷ w) (d ∷ s) ≡ got nothing t)) ⊎ (word (c ∷ w) (d ∷ s) ≡ off)
+    go true e (inl (t, f, g)) = let z : d ≡ c = eqb-true d c e in inl (t, cc, rw e g)
+    go true e (inr g) = inr (rw e g)
+    go false e h = inr (rw e)
 
-  pub byte-end : (b : ℕ) → length s ≤ i → off ≡ byte b (drop i s)
-  unfolding byte
-  byte-end b h = rw (drop_of_length-le s h)
-
-  pub byte-no : (b : ℕ) → i < length s → (get_or s i 0 ≡ b → ⊥) → off ≡ byte b (drop i s)
-  unfolding byte
-  byte-no b h n = rw (here 0 s i h, ne_eqb _ _ n)
-
-  pub byte-yes : (b : ℕ) → i < length s → get_or s i 0 ≡ b → got nothing (drop (i + 1) s) ≡ byte b (drop i s)
-  unfolding byte
-  byte-yes b h e = rw (here 0 s i h, eq-eqb _ _ e)
-
--- the definition `word` at a place of the word
-module _ (w : List ℕ) (j : ℕ) (r : List ℕ) where
-  pub word_end : length w ≤ j → got nothing r ≡ word (drop j w) r
-  unfolding word
-  word_end h = rw (drop_of_length-le w h)
-
-  pub word-off : j < length w → byte (get_or w j 0) r ≡ off → off ≡ word (drop j w) r
-  unfolding word
-  word-off h e = rw (here 0 w j h, e)
-
-  pub word_on : (t : List ℕ) → j < length w → byte (get_or w j 0) r ≡ got nothing t → word (drop j w) r ≡ word (drop (j + 1) w) t
-  unfolding word
-  word_on t h e = rw (here 0 w j h, e)
+-- what a reader of the word w found
+pub word_found : (w s : List ℕ) (r : Option (Bor (List ℕ))) → MatchOption r ((t : List ℕ) → s ≢ w ++ t) (λ x. s ≡ w ++ x.now)
+    → MatchOption r (word w s ≡ off) (λ x. word w s ≡ got nothing x.now)
+word_found w s None h = ⊎_elim (λ f. absurd (h f.0 f.1)) (λ e. e) (word-found_or_off w s)
+word_found w s (Some x) h = ap (word w) h ∙ word-append w x.now

@@ -3,4 +3,4 @@ mod Laws
 mod Digits
 mod Labels
 mod Texts
-mod Parts
+mod Lines

@@ -1,30 +1,30 @@
--- Two answers that the promise of `read_line`, or of `read_head`, allows for one file are the same answer.
-use Rattle.std.specs.Prelude.{◌≡◌, refl, List, ℕ, ◌≤◌, length, drop}
-use Rattle.std.proofs.Common.{sym, ap, arith, length-drop}
-use Rattle.tokens.specs.Parse.{got, off}
-use Rattle.tokens.specs.Seen.{lined_of, LinedIn, headed_of, HeadedIn}
-use Rattle.tokens.specs.declared.Lined.{Lined}
-use Rattle.tokens.specs.declared.Lined.TheVariants as lined
-use Rattle.tokens.specs.declared.Headed.{Headed}
-use Rattle.tokens.specs.declared.Headed.TheVariants as headed
+-- Two answers that the promise of `read_line`, or of `read_head`, allows for the same bytes are the same answer.
+use Rattle.std.specs.Prelude.{◌≡◌, List, ℕ, Option, Some, None}
+use Rattle.std.proofs.Common.{sym, ◌∙◌, arith}
+use denote.Bor.{Bor}
+use Rattle.tokens.specs.Parse.{Got, got, off, Gives}
+use Rattle.tokens.specs.Lines.{line, head}
+use Rattle.tokens.specs.declared.Line.{Line}
+use Rattle.tokens.specs.declared.Head.{Head}
 
 pub off-not-got : {A : Type 0} {a : A} {s : List ℕ} → off ≡ got a s → ⊥
 off-not-got e = let z : ◌≡◌ {A = ℕ} 0 1 = cc in omega arith
 
-same_place : (s : List ℕ) (n m : ℕ) → drop n s ≡ drop m s → n ≤ length s → m ≤ length s → n ≡ m
-same_place s n m e p q = omega (arith, simp length-drop at (ap length e))
+-- both are None, or they have the same value and the same bytes left
+abbrev pub Same : {A : Type 0} → Option (A × Bor (List ℕ)) → Option (A × Bor (List ℕ)) → Type 0
+Same None None = Unit {0}
+Same None (Some q) = ⊥
+Same (Some r) None = ⊥
+Same (Some r) (Some q) = (r.0 ≡ q.0) × (r.1.now ≡ q.1.now)
 
-same-got : {A : Type 0} (s : List ℕ) (a b : A) (n m : ℕ) → got a (drop n s) ≡ got b (drop m s) → n ≤ length s → m ≤ length s → (a ≡ b) × (n ≡ m)
-same-got s a b n m e p q = (cc, same_place s n m (cc) p q)
+one_reading : {A : Type 0} (g : Got A) (a b : Option (A × Bor (List ℕ))) → Gives a g → Gives b g → Same a b
+one_reading g None None p q = tt
+one_reading g None (Some y) p q = off-not-got (sym p ∙ q)
+one_reading g (Some x) None p q = off-not-got (sym q ∙ p)
+one_reading g (Some x) (Some y) p q = let e : got x.0 x.1.now ≡ got y.0 y.1.now = sym p ∙ q in (cc, cc)
 
-pub one_line : (s : List ℕ) (a b : Lined) → lined_of s a ≡ lined_of s b → LinedIn s a → LinedIn s b → a ≡ b
-one_line s (lined.Is l n) (lined.Is k m) e p q = let h = same-got s l k n m e p q in cc
-one_line s (lined.Is l n) lined.Off e p q = absurd (off-not-got (sym e))
-one_line s lined.Off (lined.Is k m) e p q = absurd (off-not-got e)
-one_line s lined.Off lined.Off e p q = refl
+pub one_line : (s : List ℕ) (a b : Option (Line × Bor (List ℕ))) → Gives a (line s) → Gives b (line s) → Same a b
+one_line s = one_reading (line s)
 
-pub one_head : (s : List ℕ) (a b : Headed) → headed_of s a ≡ headed_of s b → HeadedIn s a → HeadedIn s b → a ≡ b
-one_head s (headed.Is l n) (headed.Is k m) e p q = let h = same-got s l k n m e p q in cc
-one_head s (headed.Is l n) headed.Off e p q = absurd (off-not-got (sym e))
-one_head s headed.Off (headed.Is k m) e p q = absurd (off-not-got e)
-one_head s headed.Off headed.Off e p q = refl
+pub one_head : (s : List ℕ) (a b : Option (Head × Bor (List ℕ))) → Gives a (head s) → Gives b (head s) → Same a b
+one_head s = one_reading (head s)

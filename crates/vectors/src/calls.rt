@@ -1,169 +1,105 @@
 // The session calls that data/calls lists: `pair CLIENT SERVER`, `open`, `message NAME`, `rollback`, and `at` with a stand to go on from.
 // Each line is printed, a call's with its answer.
-use crate::out::{print, print_number, print_refusal};
-use crate::words::{after, next};
+use crate::words;
 use behaviour::Behaviour;
-use session::{Answer, Session};
-use stands::{ClientPoint, ClientState, ServerPoint, ServerState, Stand};
+use session::Session;
+use stands::{ClientState, ServerState, Stand};
 use std::io;
 use std::rt::Files;
 
-// A pair, and the session that the last granted call handed back.
+// A line of the list, by its first letter; one that is none of the others is an `at`.
 #[derive(Clone, Copy)]
-pub struct Play {
-    pub client: Behaviour,
-    pub server: Behaviour,
-    pub session: Session,
+enum Call<'a> {
+    Pair(&'a [u8]),
+    Open,
+    Message(&'a [u8]),
+    Rollback,
+    At(Stand),
 }
 
-fn print_client(rt: &impl Print, g: ClientPoint) -> io::Result<()> {
-    match g {
-        ClientPoint::Nowhere => print(rt, b"-"),
-        ClientPoint::To(x) => print_number(rt, x.0 as u64),
-    }
-}
-
-fn print_server(rt: &impl Print, h: ServerPoint) -> io::Result<()> {
-    match h {
-        ServerPoint::Nowhere => print(rt, b"-"),
-        ServerPoint::To(y) => print_number(rt, y.0 as u64),
-    }
-}
-
-fn print_stand(rt: &impl Print, p: Stand) -> io::Result<()> {
-    let x = p.client;
-    let y = p.server;
-    let g = p.clientpoint;
-    let h = p.serverpoint;
-    print_number(rt, x.0 as u64)?;
-    print(rt, b" ")?;
-    print_client(rt, g)?;
-    print(rt, b" ")?;
-    print_number(rt, y.0 as u64)?;
-    print(rt, b" ")?;
-    print_server(rt, h)
-}
-
-// The answer is printed; the session that then holds. "A refused session call hands back no session: the one given still holds".
-fn answered(rt: &impl Print, a: Answer, s: Session) -> io::Result<Session> {
-    print(rt, b" -> ")?;
-    match a {
-        Answer::Next(n) => {
-            let p = n.stand;
-            print_stand(rt, p)?;
-            print(rt, b"\n")?;
-            Ok(n)
-        }
-        Answer::Refused(f) => {
-            print(rt, b"refused ")?;
-            print_refusal(rt, f)?;
-            print(rt, b"\n")?;
-            Ok(s)
-        }
-    }
+fn call_in(line: &[u8]) -> Option<Call<'_>> {
+    Some(match line.first()? {
+        b'p' => Call::Pair(words::after(line)),
+        b'o' => Call::Open,
+        b'm' => Call::Message(words::after(line)),
+        b'r' => Call::Rollback,
+        _ => Call::At(placed(line)),
+    })
 }
 
 // One digit.
 fn state(c: u8) -> u8 {
-    if c < 48 {
-        return 0;
-    }
-    c - 48
+    c.saturating_sub(b'0')
 }
 
-fn client_point(c: u8) -> ClientPoint {
-    if c == b'-' {
-        return ClientPoint::Nowhere;
-    }
-    ClientPoint::To(ClientState(state(c)))
-}
-
-fn server_point(c: u8) -> ServerPoint {
-    if c == b'-' {
-        return ServerPoint::Nowhere;
-    }
-    ServerPoint::To(ServerState(state(c)))
-}
-
-fn session_at(x: u8, g: u8, y: u8, h: u8) -> Session {
-    let client = ClientState(state(x));
-    let clientpoint = client_point(g);
-    let server = ServerState(state(y));
-    let serverpoint = server_point(h);
-    let stand = Stand {
-        client,
-        clientpoint,
-        server,
-        serverpoint,
-    };
-    Session { stand }
+// A return point: one digit, or a dash for none.
+fn point(c: u8) -> Option<u8> {
+    if c == b'-' { None } else { Some(state(c)) }
 }
 
 // `at C X S Y`, each one byte.
-fn placed(line: &[u8]) -> Session {
-    if line.len() < 10 {
-        return session_at(b'0', b'-', b'0', b'-');
+fn placed(line: &[u8]) -> Stand {
+    let (x, g, y, h) = match line {
+        [_, _, _, x, _, g, _, y, _, h, ..] => (*x, *g, *y, *h),
+        _ => (b'0', b'-', b'0', b'-'),
+    };
+    Stand {
+        client: ClientState(state(x)),
+        clientpoint: point(g).map(ClientState),
+        server: ServerState(state(y)),
+        serverpoint: point(h).map(ServerState),
     }
-    session_at(line[3], line[5], line[7], line[9])
 }
 
 fn side(rt: &impl Files, path: &[u8]) -> Behaviour {
-    let read = crate::read_named(rt, path);
-    let value = read.value;
-    value
+    aut::value_of(crate::read_named(rt, path))
 }
 
-// The pair of two files, their names with a space between them, at the start. A file with no name counts as empty.
-pub fn pair(rt: &impl Files, names: &[u8]) -> Play {
-    let a = next(names, 0, b' ');
-    let client = side(rt, &names[..a]);
-    let server = side(rt, after(names));
-    let session = session_at(b'0', b'-', b'0', b'-');
-    Play {
-        client,
-        server,
-        session,
-    }
-}
-
-fn run_call(
-    rt: &impl Print,
-    line: &[u8],
-    first: u8,
+// A pair, and the session that the last granted call handed back.
+#[derive(Clone, Copy)]
+pub struct Play {
     client: Behaviour,
     server: Behaviour,
-    s: Session,
-) -> io::Result<Session> {
-    if first == b'o' {
-        return answered(rt, session::open(client, server), s);
-    }
-    if first == b'm' {
-        return answered(rt, s.message(client, server, after(line)), s);
-    }
-    if first == b'r' {
-        return answered(rt, s.rollback(client, server), s);
-    }
-    print(rt, b"\n")?;
-    Ok(placed(line))
+    session: Session,
 }
 
-pub fn run_line(rt: &(impl Files + Print), p: Play, line: &[u8]) -> io::Result<Play> {
-    if line.len() == 0 {
-        return Ok(p);
+impl Play {
+    // The pair of two files, their names with a space between them, at the start. A file with no name counts as empty.
+    pub fn new(rt: &impl Files, names: &[u8]) -> Play {
+        let (client, server) = words::split_once(names).unwrap_or((names, b""));
+        Play {
+            client: side(rt, client),
+            server: side(rt, server),
+            session: Session { stand: placed(b"") },
+        }
     }
-    let first = line[0];
-    print(rt, line)?;
-    if first == b'p' {
-        print(rt, b"\n")?;
-        return Ok(pair(rt, after(line)));
+
+    // The line is printed, and the answer to its call.
+    pub fn run(&mut self, rt: &(impl Files + Print), line: &[u8]) -> io::Result<()> {
+        let Some(call) = call_in(line) else {
+            return Ok(());
+        };
+        rt.write_all(line)?;
+        let answer = match call {
+            Call::Pair(names) => {
+                *self = Play::new(rt, names);
+                return println!(rt;);
+            }
+            Call::At(stand) => {
+                self.session = Session { stand };
+                return println!(rt;);
+            }
+            Call::Open => session::open(self.client, self.server),
+            Call::Message(name) => self.session.message(self.client, self.server, name),
+            Call::Rollback => self.session.rollback(self.client, self.server),
+        };
+        // "A refused session call hands back no session: the one given still holds"
+        match answer {
+            Ok(next) => {
+                self.session = next;
+                println!(rt; " -> {}", next.stand)
+            }
+            Err(f) => println!(rt; " -> refused {f}"),
+        }
     }
-    let client = p.client;
-    let server = p.server;
-    let held = p.session;
-    let session = run_call(rt, line, first, client, server, held)?;
-    Ok(Play {
-        client,
-        server,
-        session,
-    })
 }

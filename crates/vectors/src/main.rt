@@ -3,60 +3,45 @@
 #![tactic(auto)]
 
 mod calls;
-mod out;
 mod prefixes;
 mod words;
 
-ghost use Rattle.std.specs.Prelude.{◌<◌, length, IfOk};
-
-use aut::Read;
+use behaviour::{Behaviour, Refusal};
 use calls::Play;
-use out::{print, print_refusal};
 use std::io;
 use std::rt::Files;
 
-fn read_named(rt: &impl Files, path: &[u8]) -> Read {
-    let mut text = [0u8; 4097];
-    let n = files::load(rt, path, &mut text);
-    aut::read_file(&text[..n])
+// The file's bytes, as many as `buffer` takes.
+fn load<'a>(rt: &impl Files, path: &[u8], buffer: &'a mut [u8]) -> &'a [u8] {
+    let n = files::load(rt, path, buffer);
+    &buffer[..n]
+}
+
+fn read_named(rt: &impl Files, path: &[u8]) -> Result<Behaviour, Refusal> {
+    let mut buffer = [0u8; 4097];
+    aut::read_file(load(rt, path, &mut buffer))
 }
 
 // A single file: is it taken, or which refusal?
 fn run_file(rt: &(impl Files + Print), path: &[u8]) -> io::Result<()> {
-    let read = read_named(rt, path);
-    let refusal = read.refusal;
-    if refusal.number == 0 {
-        return print(rt, b"taken\n");
+    match read_named(rt, path) {
+        Ok(_) => println!(rt; "taken"),
+        Err(refusal) => println!(rt; "{refusal}"),
     }
-    print_refusal(rt, refusal)?;
-    print(rt, b"\n")
 }
 
 // The report in one line: its first line, and then the labels of the run.
 fn print_labels(rt: &impl Print, report: &[u8]) -> io::Result<()> {
-    let end = words::next(report, 0, b'\n');
-    print(rt, &report[..end])?;
-    let mut at = end;
-    while at < report.len() {
-        at = print_label(rt, report, at)?;
+    let end = report
+        .iter()
+        .position(|b| *b == b'\n')
+        .unwrap_or(report.len());
+    rt.write_all(&report[..end])?;
+    for label in report[end..].split(|b| *b == b'"').skip(1).step_by(2) {
+        rt.write_all(b" ")?;
+        rt.write_all(label)?;
     }
-    print(rt, b"\n")
-}
-
-// The next label from the place `at` on; the place after it.
-fn print_label(rt: &impl Print, report: &[u8], at: usize) -> io::Result<usize>
-    requires { at < length report.now }
-    ensures { IfOk result (λ next. at < next) }
-{
-    let open = words::next(report, at, b'"');
-    if open == report.len() {
-        return Ok(open);
-    }
-    let from = open + 1;
-    let close = words::next(report, from, b'"');
-    print(rt, b" ")?;
-    print(rt, &report[from..close])?;
-    Ok(close + 1)
+    println!(rt;)
 }
 
 fn run_pair(rt: &(impl Files + Print), client: &[u8], server: &[u8]) -> io::Result<()> {
@@ -65,71 +50,39 @@ fn run_pair(rt: &(impl Files + Print), client: &[u8], server: &[u8]) -> io::Resu
     print_labels(rt, &text[..n])
 }
 
-// One file or two, their names with a space between them.
-fn run_files(rt: &(impl Files + Print), names: &[u8]) -> io::Result<()> {
-    let a = words::next(names, 0, b' ');
-    if a < names.len() {
-        let b = a + 1;
-        run_pair(rt, &names[..a], &names[b..])
-    } else {
-        run_file(rt, names)
-    }
-}
-
-// The case's name, and what came of it.
+// The case's name, and what came of its one file or two, with a space before each.
 fn run_case(rt: &(impl Files + Print), line: &[u8]) -> io::Result<()> {
-    let a = words::next(line, 0, b' ');
-    print(rt, &line[..a])?;
-    print(rt, b" ")?;
-    if a < line.len() {
-        let b = a + 1;
-        run_files(rt, &line[b..])?;
+    let Some((name, files)) = words::split_once(line) else {
+        rt.write_all(line)?;
+        return rt.write_all(b" ");
+    };
+    rt.write_all(name)?;
+    rt.write_all(b" ")?;
+    match words::split_once(files) {
+        Some((client, server)) => run_pair(rt, client, server),
+        None => run_file(rt, files),
+    }
+}
+
+// Runs each line of the list.
+fn run_list<F: FnMut(&[u8]) -> io::Result<()>>(
+    rt: &impl Files,
+    path: &[u8],
+    mut run: F,
+) -> io::Result<()>
+    requires { F.IsAlwaysCallable run }
+{
+    let mut buffer = [0u8; 8192];
+    let list = load(rt, path, &mut buffer);
+    for line in list.split_inclusive(|b| *b == b'\n') {
+        run(line.strip_suffix(b"\n").unwrap_or(line))?;
     }
     Ok(())
-}
-
-// What the lines of a list are: cases, files whose prefixes are tried, or session calls.
-#[derive(Clone, Copy)]
-enum Lines {
-    Cases,
-    Files,
-    Calls,
-}
-
-// The pair and the session with which the next line's call is made.
-fn run_line(rt: &(impl Files + Print), lines: Lines, p: Play, line: &[u8]) -> io::Result<Play> {
-    match lines {
-        Lines::Cases => {
-            run_case(rt, line)?;
-            Ok(p)
-        }
-        Lines::Files => {
-            prefixes::run(rt, line)?;
-            Ok(p)
-        }
-        Lines::Calls => calls::run_line(rt, p, line),
-    }
-}
-
-fn run_all(rt: &(impl Files + Print), list: &[u8], lines: Lines) -> io::Result<()> {
-    let mut p = calls::pair(rt, b"");
-    let mut at = 0;
-    while at < list.len() {
-        let end = words::next(list, at, b'\n');
-        p = run_line(rt, lines, p, &list[at..end])?;
-        at = end + 1;
-    }
-    Ok(())
-}
-
-fn run_list(rt: &(impl Files + Print), path: &[u8], lines: Lines) -> io::Result<()> {
-    let mut list = [0u8; 8192];
-    let n = files::load(rt, path, &mut list);
-    run_all(rt, &list[..n], lines)
 }
 
 fn main(rt: HostRuntime) -> io::Result<()> {
-    run_list(&rt, b"index", Lines::Cases)?;
-    run_list(&rt, b"prefixes", Lines::Files)?;
-    run_list(&rt, b"calls", Lines::Calls)
+    run_list(&rt, b"index", |line| run_case(&rt, line))?;
+    run_list(&rt, b"prefixes", |path| prefixes::run(&rt, path))?;
+    let mut play = Play::new(&rt, b"");
+    run_list(&rt, b"calls", |line| play.run(&rt, line))
 }

@@ -1,4 +1,3 @@
 -- The laws that the proofs of `writer` share.
 pub mod States
-pub mod Telling
 pub mod Whole

@@ -1,15 +1,13 @@
 -- What is left of the text at a place of the messages, and at a state.
 use mathlib.Core.Path.{◌≡◌, refl, ap, ◌∙◌}
 use mathlib.Core.List.{List, [], ◌∷◌, ◌++◌, append_assoc, append-nil}
-use Prim.Native.Nat.{ℕ, ◌+◌, ◌-◌, ◌<◌, ◌≤◌}
-use native.Mathlib.Omega.{arith}
+use Prim.Native.Nat.{ℕ, ◌+◌}
 use borrow.Author.Tests.{eq-eqb, ne_eqb}
-use lib.ListN.{length, get_or, take, drop, drop_of_length-le}
-use Rattle.names.specs.Places.{here}
+use lib.ListN.{length}
+use Rattle.std.proofs.lemmas.List.{nil_from_length}
 use Rattle.tokens.specs.declared.Label.TheVariants.{Mark}
 use Rattle.tokens.specs.declared.Line.{Line}
 use Rattle.behaviour.specs.declared.Message.{Message}
-use Rattle.behaviour.specs.Pick.{unused, next-used}
 use Rattle.text.specs.Spelling.{line_text}
 use Rattle.writer.specs.Text.{message_line, mark_line, message_lines, after_state, lines_from, lines_text}
 
@@ -28,52 +26,55 @@ module _ (k m : ℕ) where
   unfolding lines_text
   mark-some h = rw (eq-eqb m 1 h, append-nil)
 
--- the messages from i on, of the n that are used
-module _ (a : List Message) (n k g i : ℕ) where
-  module _ (h : i < n) (l : n ≤ length a) where
-    -- one of the state k
-    module _ (f : (get_or a i unused).from ≡ k) where
-      pub message-here : lines_text (message_lines k g (take (n - i) (drop i a)))
-          ≡ line_text (message_line g (get_or a i unused)) ++ lines_text (message_lines k g (take (n - (i + 1)) (drop (i + 1) a)))
-      unfolding message_lines lines_text
-      message-here = rw (next-used n a i h l, eq-eqb (get_or a i unused).from k f)
+-- the first message, by whether it is of the state k
+module _ (k : ℕ) {a : List Message} {m : Message} {l : List Message} (e : a ≡ m ∷ l) where
+  module _ (f : m.from ≡ k) where
+    pub message-here : (g : ℕ) → lines_text (message_lines k g a) ≡ line_text (message_line g m) ++ lines_text (message_lines k g l)
+    unfolding message_lines lines_text
+    message-here g = rw (e, eq-eqb m.from k f) refl
 
-      pub after-here : after_state k (take (n - i) (drop i a)) ≡ after_state k (take (n - (i + 1)) (drop (i + 1) a))
-      unfolding after_state
-      after-here = rw (next-used n a i h l, eq-eqb (get_or a i unused).from k f)
+    pub after-here : after_state k a ≡ after_state k l
+    unfolding after_state
+    after-here = rw (e, eq-eqb m.from k f) refl
 
-    -- one of another state
-    module _ (f : (get_or a i unused).from ≡ k → ⊥) where
-      pub message-none : lines_text (message_lines k g (take (n - i) (drop i a))) ≡ []
-      unfolding message_lines lines_text
-      message-none = rw (next-used n a i h l, ne_eqb (get_or a i unused).from k f)
+  module _ (f : m.from ≡ k → ⊥) where
+    pub message-none : (g : ℕ) → lines_text (message_lines k g a) ≡ []
+    unfolding message_lines lines_text
+    message-none g = rw (e, ne_eqb m.from k f) refl
 
-      pub after_none : after_state k (take (n - i) (drop i a)) ≡ take (n - i) (drop i a)
-      unfolding after_state
-      after_none = rw (next-used n a i h l, ne_eqb (get_or a i unused).from k f)
+    pub after_none : after_state k a ≡ a
+    unfolding after_state
+    after_none = rw (e, ne_eqb m.from k f) refl
 
-  pub message-end : n ≤ i → lines_text (message_lines k g (take (n - i) (drop i a))) ≡ []
+-- where no message is left
+module _ (k : ℕ) (a : List Message) (h : length a ≡ 0) where
+  pub message-end : (g : ℕ) → lines_text (message_lines k g a) ≡ []
   unfolding message_lines lines_text
-  message-end h = let e : n - i ≡ 0 = omega arith in rw e
+  message-end g = rw (nil_from_length a h) refl
 
-  pub after-end : n ≤ i → after_state k (take (n - i) (drop i a)) ≡ take (n - i) (drop i a)
+  pub after-end : after_state k a ≡ a
   unfolding after_state
-  after-end h = let e : n - i ≡ 0 = omega arith in rw e
+  after-end = rw (nil_from_length a h) refl
 
--- the lines from the state k on
-abbrev pub ahead : List ℕ → List ℕ → ℕ → List Message → List ℕ
-ahead ms gs k l = lines_text (lines_from k (drop k ms) (drop k gs) l)
-
-module _ (ms gs : List ℕ) (k : ℕ) (l : List Message) where
-  pub state-here : k < length ms → k < length gs
-      → ahead ms gs k l ≡ lines_text (mark_line k (get_or ms k 0)) ++ (lines_text (message_lines k (get_or gs k 0) l) ++ ahead ms gs (k + 1) (after_state k l))
+-- the lines from the state k on, by the marks and signs that are left
+module _ (k : ℕ) (ms gs : List ℕ) (l : List Message) where
+  pub state-here : {m g : ℕ} {ns hs : List ℕ} → ms ≡ m ∷ ns → gs ≡ g ∷ hs
+      → lines_text (lines_from k ms gs l) ≡ lines_text (mark_line k m) ++ (lines_text (message_lines k g l) ++ lines_text (lines_from (k + 1) ns hs (after_state k l)))
   unfolding lines_from
-  state-here m g =
-      let x : List Line = lines_from (k + 1) (drop (k + 1) ms) (drop (k + 1) gs) (after_state k l) in
-      rw (here 0 ms k m, here 0 gs k g)
-      (texts_append (mark_line k (get_or ms k 0)) (message_lines k (get_or gs k 0) l ++ x)
-      ∙ ap (λ (y : List ℕ). lines_text (mark_line k (get_or ms k 0)) ++ y) (texts_append (message_lines k (get_or gs k 0) l) x))
+  state-here {m} {g} {ns} {hs} e f =
+      let x : List Line = lines_from (k + 1) ns hs (after_state k l) in
+      rw (e, f)
+      (texts_append (mark_line k m) (message_lines k g l ++ x)
+      ∙ ap (λ (y : List ℕ). lines_text (mark_line k m) ++ y) (texts_append (message_lines k g l) x))
 
-  pub state-end : length ms ≤ k → ahead ms gs k l ≡ []
+  pub no-mark-left : length ms ≡ 0 → lines_text (lines_from k ms gs l) ≡ []
   unfolding lines_from lines_text
-  state-end h = rw (drop_of_length-le ms h)
+  no-mark-left h = rw (nil_from_length ms h) refl
+
+  pub no-sign-left : length gs ≡ 0 → lines_text (lines_from k ms gs l) ≡ []
+  unfolding lines_from lines_text
+  no-sign-left h = rw (nil_from_length gs h) (none ms)
+    where
+      none : (ns : List ℕ) → lines_text (lines_from k ns [] l) ≡ []
+      none [] = refl
+      none (n ∷ ns) = refl

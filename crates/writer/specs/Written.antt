@@ -1,29 +1,27 @@
 -- What `write` answers and leaves in the lent buffer.
-use Rattle.std.specs.Prelude.{◌≡◌, List, ◌++◌, Bool, ◌&&◌, ℕ, leb, length, drop}
+use Rattle.std.specs.Prelude.{◌≡◌, List, ◌++◌, ◌&&◌, ℕ, length, drop, Ok, Err}
 use Rattle.std.proofs.Common.{sym, ◌∙◌}
 use Rattle.names.specs.If.{if}
+use Rattle.text.specs.Fronts.{room}
+use Rattle.behaviour.specs.declared.Reason.TheVariants as reason
 use Rattle.behaviour.specs.declared.Behaviour.{Behaviour}
 use Rattle.behaviour.specs.declared.Refusal.{Refusal}
 use Rattle.behaviour.specs.Sound.{sound}
 use Rattle.behaviour.specs.Refusals.{refusal}
-use Rattle.writer.specs.declared.Written.{Written}
-use Rattle.writer.specs.declared.Written.TheVariants.{Bytes, Refused}
+use Rattle.writer.specs.Said.{Written}
 use Rattle.writer.specs.Text.{text}
 
 -- 12 "text or run longer than the lent buffer", place 0
 abbrev pub too_long : Refusal
-too_long = refusal 12 0
+too_long = refusal reason.LongerThanLent 0
 
 -- 13 "a behaviour value that no accepted file gives", place 0
 abbrev pub unsound : Refusal
-unsound = refusal 13 0
-
-abbrev pub room : List ℕ → List ℕ → Bool
-room w out = leb (length w) (length out)
+unsound = refusal reason.NoFileGivesIt 0
 
 -- "Calls on values: 13, .. then the rest": the text's length, or the refusal
 abbrev pub written : Behaviour → List ℕ → Written
-written b out = if (sound b) (if (room (text b) out) (Bytes (length (text b))) (Refused too_long)) (Refused unsound)
+written b out = if (sound b) (if (room (text b) out) (Ok (length (text b))) (Err too_long)) (Err unsound)
 
 -- "No refusal writes to a lent buffer"; else the text stands first, and the bytes after it stay
 abbrev pub left : Behaviour → List ℕ → List ℕ

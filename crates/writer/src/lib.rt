@@ -1,156 +1,89 @@
 // Writing a description file: the text of a value, put piece by piece.
 #![tactic(auto)]
 
-ghost use Rattle.std.specs.Prelude.{◌≡◌, ◌-◌, ◌<◌, ◌≤◌, length, drop, take};
-ghost use Rattle.behaviour.specs.Limits.{most_lines};
-ghost use Rattle.text.specs.Putting.{Short, Put};
+ghost use Rattle.std.specs.Prelude.{◌≡◌, ◌<◌, ◌≤◌, take};
+ghost use Rattle.behaviour.specs.Limits.{most_states, most_lines};
+ghost use Rattle.text.specs.Putting.{Puts};
 ghost use Rattle.text.specs.Spelling.{tens, line_text};
 ghost use Rattle.writer.specs.Text.{message_line, mark_line, message_lines, after_state, lines_from, lines_text, line_count, text};
 ghost use Rattle.writer.specs.Written.{Writes};
 
-use behaviour::{
-    Behaviour, Message, Messages, PerState, Refusal, STATES, is_sound, marked_count, refuse, wide,
-};
+use behaviour::{Behaviour, Message, PerState, Reason, Refusal, is_sound, marked_count};
+use text::Text;
 use tokens::{Label, Line};
 
-// The number of bytes written, or the refusal.
-#[derive(Clone, Copy)]
-pub enum Written {
-    Bytes(u16),
-    Refused(Refusal),
-}
-
 // The mark's line of the state `k`.
-fn put_mark(buf: &mut [u8], at: usize, k: usize, m: u8) -> usize
-    requires k_bound { k < tens 4 }
-    requires short { Short at (lines_text (mark_line k m)) }
-    ensures { Put buf.old at (lines_text (mark_line k m)) result buf.new }
+// Kept: a mark as its byte: any bytes may come from C as a value (see `Behaviour`).
+fn put_mark(out: &mut Text, k: usize, m: u8)
+    requires { k < tens 4 }
+    ensures { Puts out.old (lines_text (mark_line k m)) out.new }
 {
-    if m != 1 {
-        return at;
-    }
-    text::put_line(
-        buf,
-        at,
-        Line {
+    if m == 1 {
+        out.put_line(Line {
             from: k,
             label: Label::Mark,
             to: k,
-        },
-    )
+        });
+    }
 }
 
 // The line of the message `m` at a state of the sign `g`.
-fn put_message(buf: &mut [u8], at: usize, m: Message, g: u8) -> usize
-    requires { Short at (line_text (message_line g m)) }
-    ensures { Put buf.old at (line_text (message_line g m)) result buf.new }
+fn put_message(out: &mut Text, m: Message, g: u8)
+    ensures { Puts out.old (line_text (message_line g m)) out.new }
 {
-    let from = wide(m.from);
-    let label = text::label_of(g, m.name);
-    let to = wide(m.to);
-    text::put_line(buf, at, Line { from, label, to })
+    out.put_line(Line {
+        from: usize::from(m.from),
+        label: text::label_of(g, m.name),
+        to: usize::from(m.to),
+    });
 }
 
-// A place of the text, and the next message.
-#[derive(Clone, Copy)]
-struct Reached {
-    at: usize,
-    next: usize,
-}
-
-// The lines of the messages of the state `k` that stand first among the `n` messages from `i` on.
-fn put_messages(
-    buf: &mut [u8],
-    at: usize,
-    a: Messages,
-    n: usize,
-    i: usize,
-    k: usize,
-    g: u8,
-) -> Reached
-    requires n_le_most_lines { n ≤ most_lines }
-    requires i_le_n { i ≤ n }
-    requires short { Short at (lines_text (message_lines k g (take (n - i) (drop i a)))) }
-    ensures put { Put buf.old at (lines_text (message_lines k g (take (n - i) (drop i a)))) result.at buf.new }
-    ensures within { result.next ≤ n }
-    ensures rest { take (n - result.next) (drop result.next a) ≡ after_state k (take (n - i) (drop i a)) }
+// The lines of the messages of the state `k` that stand first among `a`. What is left are those after them.
+fn put_messages<'a>(out: &mut Text, a: &'a [Message], k: usize, g: u8) -> &'a [Message]
+    ensures put { Puts out.old (lines_text (message_lines k g a.now)) out.new }
+    ensures rest { result.now ≡ after_state k a.now }
 {
-    let mut place = at;
-    let mut j = i;
-    while j < n {
-        let m = a[j];
-        if wide(m.from) != k {
-            return Reached { at: place, next: j };
+    let mut rest = a;
+    while let Some((m, after)) = rest.split_first() {
+        if usize::from(m.from) != k {
+            return rest;
         }
-        place = put_message(buf, place, m, g);
-        j += 1;
+        put_message(out, *m, g);
+        rest = after;
     }
-    Reached { at: place, next: j }
+    rest
 }
 
 // The lines by state: the mark first, then the messages.
-fn put_lines(
-    buf: &mut [u8],
-    at: usize,
-    marks: PerState,
-    signs: PerState,
-    a: Messages,
-    n: usize,
-) -> usize
-    requires n_le_most_lines { n ≤ most_lines }
-    requires short { Short at (lines_text (lines_from 0 marks signs (take n a))) }
-    ensures { Put buf.old at (lines_text (lines_from 0 marks signs (take n a))) result buf.new }
+fn put_lines(out: &mut Text, marks: &PerState, signs: &PerState, a: &[Message])
+    ensures { Puts out.old (lines_text (lines_from 0 marks.now signs.now a.now)) out.new }
 {
-    let mut place = at;
-    let mut next = 0;
-    let mut k = 0;
-    while k < STATES {
-        let m = marks[k];
-        let p = put_mark(buf, place, k, m);
-        let g = signs[k];
-        let r = put_messages(buf, p, a, n, next, k, g);
-        place = r.at;
-        next = r.next;
-        k += 1;
+    let mut rest = a;
+    for (k, (&mark, &sign)) in marks.iter().zip(signs).enumerate() {
+        put_mark(out, k, mark);
+        rest = put_messages(out, rest, k, sign);
     }
-    place
 }
 
-// The text of `b`.
-fn put_text(buf: &mut [u8], b: Behaviour) -> usize
-    requires { line_count b ≤ most_lines }
-    ensures { Put buf.old 0 (text b) result buf.new }
+// The text of `b`, which has `lines` lines after the first.
+fn put_text(out: &mut Text, lines: usize, b: &Behaviour)
+    requires count { lines ≡ line_count b.now }
+    requires few { lines ≤ most_lines }
+    ensures { Puts out.old (text b.now) out.new }
 {
-    let n = wide(b.count);
-    let marks = b.marks;
-    let t = n + marked_count(marks);
-    let s = wide(b.states);
-    let at = text::put_head(buf, 0, t, s);
-    let signs = b.signs;
-    let a = b.messages;
-    put_lines(buf, at, marks, signs, a, n)
-}
-
-// How long the text of `b` is: it is put where there is no room for it.
-fn text_length(b: Behaviour) -> usize
-    requires { line_count b ≤ most_lines }
-    ensures { result ≡ length (text b) }
-{
-    let mut none = [0u8; 1];
-    put_text(&mut none, b)
+    out.put_head(lines, usize::from(b.states));
+    put_lines(out, &b.marks, &b.signs, b.used_messages());
 }
 
 // The text of `b` into `out`.
-pub fn write(b: Behaviour, out: &mut [u8]) -> Written
+// Kept: a cast, which is proved to fit; `try_from` would ask for an answer that never comes.
+pub fn write(b: Behaviour, out: &mut [u8]) -> Result<u16, Refusal>
     ensures { Writes b out.old result out.new }
 {
-    if !is_sound(b) {
-        return Written::Refused(refuse(13, 0));
+    if !is_sound(&b) {
+        return Err(Reason::NoFileGivesIt.into());
     }
-    let n = text_length(b);
-    if out.len() < n {
-        return Written::Refused(refuse(12, 0));
-    }
-    put_text(out, b);
-    Written::Bytes(n as u16)
+    let lines = usize::from(b.count) + marked_count(b.marks);
+    let n = text::put_front(out, |text| put_text(text, lines, &b)).ok_or(Reason::LongerThanLent)?;
+    Ok(n as u16)
 }

@@ -1,28 +1,20 @@
-use Rattle.std.proofs.Common.{◌≡◌, refl, sym, ◌∙◌, arith, rules}
+-- `aut::marked_finished` meets its contract.
+use Rattle.std.proofs.Common.{◌≡◌, ◌<◌, ℕ, Option, Some, None, List, length, MatchOption, rules, arith}
+use Rattle.std.proofs.iter.runs.Made.{chains}
 use Rattle.behaviour.specs.Limits.{most_states}
-use Rattle.aut.proofs.Places.{marked-end, marked-yes, marked_more}
+use Rattle.aut.specs.File.{marked_finished}
+use Rattle.aut.proofs.Places.{IsMarkedFinished, NoneBefore, marked-none, marked-first}
 use Rattle.aut.proofs.marked_finished.Goals as goal
 
-pub loop-i-init : goal.loop-i-init
-loop-i-init c = (refl, search rules, search rules, omega arith)
-
-pub returns-then-is_marked_finished : goal.returns-then-is_marked_finished
-returns-then-is_marked_finished c =
-    let l = c.loop-i in
-    marked-yes l.i c.args.marks c.args.signs l.i (omega arith) (omega arith) (sym c.is_marked_finished.ensures ∙ c.if-is_marked_finished.true) ∙ sym l.invariant.0
-
-pub loop-i-preserved : goal.loop-i-preserved
-loop-i-preserved c =
-    let l = c.loop-i in (
-      l.invariant.0
-          ∙ marked_more l.i c.args.marks c.args.signs l.i (omega arith) (omega arith) (sym c.is_marked_finished.ensures ∙ c.if-is_marked_finished.false),
-      l.invariant.1,
-      l.invariant.2,
-      omega arith,
-    )
+found : (ms gs : List ℕ) → length ms ≡ most_states → length gs ≡ most_states → (r : Option ℕ)
+    → MatchOption r (NoneBefore ms gs most_states) (λ i. (i < most_states) × IsMarkedFinished ms gs i × NoneBefore ms gs i)
+    → MatchOption r (marked_finished 0 ms gs ≡ most_states) (λ k. (k < most_states) × (marked_finished 0 ms gs ≡ k))
+found ms gs l m None h = let e = marked-none 0 ms gs (omega arith) (λ k p. h k (omega arith)) in omega arith
+found ms gs l m (Some i) h = let e = marked-first 0 i ms gs (omega (arith, h.0)) (omega (arith, h.0)) h.1 h.2 in (h.0, omega arith)
 
 pub returns : goal.returns
 returns c =
-    let l = c.loop-i in
-    let e : most_states ≡ l.i = omega arith in
-    e ∙ marked-end l.i c.args.marks c.args.signs l.i (omega arith) ∙ sym l.invariant.0
+    let ms = c.args.marks.now in
+    let gs = c.args.signs.now in
+    let e : MatchOption c.position.result (NoneBefore ms gs most_states) (λ i. (i < most_states) × IsMarkedFinished ms gs i × NoneBefore ms gs i) = search (rules, chains) in
+    found ms gs c.told-marks c.told-signs _ e

@@ -1,63 +1,56 @@
-use Rattle.std.proofs.Common.{◌≡◌, sym, ap, ◌∙◌, arith, drop}
-use Rattle.tokens.specs.Parse.{got}
+-- `aut::read_lines` meets its contract.
+use Rattle.std.proofs.Common.{◌≡◌, ◌∙◌, sym, ap, ◌<◌, ◌+◌, ◌-◌, length, rules, arith, Ok, Err}
+use Rattle.tokens.specs.Parse.{got, off}
 use Rattle.tokens.specs.Lines.{line}
-use Rattle.tokens.specs.Seen.{lined_of}
-use Rattle.behaviour.specs.declared.Behaviour.{Behaviour}
+use Rattle.behaviour.specs.declared.Reason.TheVariants as reason
+use Rattle.behaviour.specs.Refusals.{refusal}
 use Rattle.aut.specs.Accepting.{low}
-use Rattle.aut.specs.File.{lines}
+use Rattle.aut.specs.Adding.{check}
+use Rattle.aut.specs.File.{refuse}
 use Rattle.aut.proofs.Reading.{lines-short, lines-bad, lines_more, lines_extra, lines-done, add-keeps}
-use Rattle.aut.proofs.read_lines.Goals.{In-Is}
 use Rattle.aut.proofs.read_lines.Goals as goal
 
--- the line that was read
-taken : (c : In-Is)
-    → let s = c.args.s.now in line (drop c.loop-t.i s) ≡ got c.in-Is.l (drop c.in-Is.n s)
-taken c = sym c.read_line.ensures.0 ∙ ap (lined_of c.args.s.now) c.in-Is.is
+pub returns-in_err-line : goal.returns-in_err-line
+returns-in_err-line c =
+    let v = c.loop-p in
+    let e : line v.left.now ≡ off = search rules in
+    let f : c.from_residual.result ≡ refuse reason.LineShape v.p-counter = search rules in
+    f ∙ sym (v.invariant.0 ∙ lines-short _ _ _ _ (omega arith) e)
 
-pub loop-t-init : goal.loop-t-init
-loop-t-init c =
-    let q = c.nothing-b.ensures in (
-      ap (λ (x : Behaviour). lines c.args.count 2 x (drop c.args.at c.args.s.now)) (sym q),
-      omega (arith, ap (λ (x : Behaviour). x.states) q),
-      omega (arith, ap (λ (x : Behaviour). x.count) q),
-      omega arith,
-    )
+pub returns-in_err-map_err : goal.returns-in_err-map_err
+returns-in_err-map_err c =
+    let v = c.loop-p in
+    let e : line v.left.now ≡ got c.in_ok-line.line c.in_ok-line.after.now = search rules in
+    let k = c.in_err-map_err.field-0.0.reason in
+    let n : check v.b c.in_ok-line.line ≡ Err k = search rules in
+    let f : c.from_residual-in_err-map_err.result ≡ refuse k v.p-counter = search rules in
+    f ∙ sym (v.invariant.0 ∙ lines-bad _ _ _ _ _ _ k (omega arith) e n)
 
-pub returns-in_default : goal.returns-in_default
-returns-in_default c =
-    let e = sym c.read_line.ensures.0 ∙ ap (lined_of c.args.s.now) c.in_default.is in
-    c.refused.ensures ∙ lines-short _ _ _ _ c.loop-t-test.true e ∙ sym c.loop-t.invariant.0
-
-pub refusal_of-k-requires : goal.refusal_of-k-requires
-refusal_of-k-requires c = omega arith
-
-pub returns-then-k-ne0 : goal.returns-then-k-ne0
-returns-then-k-ne0 c =
-    c.refused-then-k-ne0.ensures
-    ∙ lines-bad _ _ _ _ _ _ _ c.loop-t-test.true (taken (goal.at.returns-then-k-ne0 c).In-Is) c.refusal_of-k.ensures c.if-k-ne0.true
-    ∙ sym c.loop-t.invariant.0
-
-pub added-b-requires : goal.added-b-requires
-added-b-requires c =
-    let b = c.loop-t.b in
-    let l = c.in-Is.l in
-    let f = low b l (sym c.refusal_of-k.ensures ∙ c.if-k-ne0.false) in
+pub add-requires : goal.add-requires
+add-requires c =
+    let v = c.loop-p in
+    let n : check v.b c.in_ok-line.line ≡ Ok tt = search rules in
+    let f = low v.b c.in_ok-line.line n in
     omega arith
 
-pub loop-t-preserved : goal.loop-t-preserved
-loop-t-preserved c =
-    let v = c.loop-t in
-    let k = add-keeps v.b c.in-Is.l in
-    let q = c.added-b.ensures in (
-      v.invariant.0
-          ∙ lines_more _ _ _ _ _ _ _ _ c.loop-t-test.true (taken (goal.at.loop-t-preserved c).In-Is) c.refusal_of-k.ensures c.if-k-ne0.false q,
-      omega (arith, ap (λ (x : Behaviour). x.states) q, k.0),
-      omega (arith, ap (λ (x : Behaviour). x.count) q, k.1),
-      omega arith,
-    )
+pub loop-p-preserved : goal.loop-p-preserved
+loop-p-preserved c =
+    let v = c.loop-p in
+    let e : line v.left.now ≡ got c.in_ok-line.line c.in_ok-line.after.now = search rules in
+    let n : check v.b c.in_ok-line.line ≡ Ok tt = search rules in
+    let k = add-keeps v.b c.in_ok-line.line in
+    let s : c.args.count + 2 - v.p-counter - 1 ≡ c.args.count + 2 - (v.p-counter + 1) = omega arith in
+    rw (c.add.ensures, sym s) (v.invariant.0 ∙ lines_more _ _ _ _ _ _ (omega arith) e n, omega arith, omega arith)
 
-pub returns-then-i-s : goal.returns-then-i-s
-returns-then-i-s c = c.refused-then-i-s.ensures ∙ lines_extra _ _ _ _ _ c.loop-t-test.false c.if-i-s.true ∙ sym c.loop-t.invariant.0
+pub returns-then-not-is_empty : goal.returns-then-not-is_empty
+returns-then-not-is_empty c =
+    let v = c.loop-p in
+    let h : 0 < length v.left.now = search rules in
+    let p : c.args.count + 2 ≡ v.p-counter = omega arith in
+    ap Err (c.at-then-not-is_empty.ensures ∙ ap (refusal reason.LineShape) p) ∙ sym (v.invariant.0 ∙ lines_extra _ _ _ _ (omega arith) h)
 
 pub returns : goal.returns
-returns c = c.finished.ensures ∙ lines-done _ _ _ _ _ c.loop-t-test.false c.if-i-s.false ∙ sym c.loop-t.invariant.0
+returns c =
+    let v = c.loop-p in
+    let h : length v.left.now ≡ 0 = search rules in
+    c.finished.ensures ∙ sym (v.invariant.0 ∙ lines-done _ _ _ _ (omega arith) h)

@@ -1,27 +1,12 @@
--- `behaviour::is_settled` meets its contract.
-use Rattle.std.proofs.Common.{refl, sym, ◌∙◌, arith, rules}
-use borrow.Author.Tests.{not-true, not-false}
-use Rattle.behaviour.proofs.Loops.{settled-end, settled-no, settled-more}
+use Rattle.std.proofs.Common.{rules, ◌∙◌, tests}
+use Rattle.std.proofs.lemmas.Iterator.{YieldsList-from_slice, YieldsList-from_zip}
+use Rattle.std.proofs.lemmas.Iterator.Search.{all_from_yields_List}
+use Rattle.behaviour.proofs.Loops.{state, states}
 use Rattle.behaviour.proofs.is_settled.Goals as goal
-
-pub loop-i-init : goal.loop-i-init
-loop-i-init c = (refl, search rules, search rules, search rules)
-
-pub returns-then-not-is_state : goal.returns-then-not-is_state
-returns-then-not-is_state c =
-    let l = c.loop-i in
-    settled-no c.args.marks c.args.signs c.args.table l.i (omega arith) (omega arith) (omega arith) (sym c.is_state.ensures ∙ not-true _ c.if-not-is_state.true-raw) ∙ sym l.invariant.0
-
-pub loop-i-preserved : goal.loop-i-preserved
-loop-i-preserved c =
-    let l = c.loop-i in (
-      l.invariant.0 ∙ settled-more c.args.marks c.args.signs c.args.table l.i (omega arith) (omega arith) (omega arith) (sym c.is_state.ensures ∙ not-false _ c.if-not-is_state.false-raw),
-      l.invariant.1,
-      l.invariant.2,
-      l.invariant.3,
-    )
 
 pub returns : goal.returns
 returns c =
-    let l = c.loop-i in
-    settled-end c.args.marks c.args.signs c.args.table l.i (omega arith) ∙ sym l.invariant.0
+    all_from_yields_List state c.all.new.self _ c.all.result c.all.ensures.ran
+    (YieldsList-from_zip (YieldsList-from_zip (YieldsList-from_slice c.args.marks cc) (YieldsList-from_slice c.args.signs cc)) (YieldsList-from_slice c.args.speaking cc))
+    (λ x b q k. search (rules, tests))
+    ∙ states c.args.marks c.args.signs c.args.speaking

@@ -1,44 +1,38 @@
 -- `behaviour::is_sound` meets its contract.
-use Rattle.std.proofs.Common.{sym, ◌∙◌, arith}
-use borrow.Author.Tests.{not-true, not-false}
-use Rattle.behaviour.proofs.Lengths.{sized}
-use Rattle.behaviour.proofs.Walking.{out_of_range, walking_start, walking_no, walking_from, walking_next, walking_end, blanking_no, blanking_next, blanking_end}
+use Rattle.std.proofs.Common.{◌≡◌, sym, ap, ◌∙◌, arith, rules, tests, drop}
+use Rattle.std.proofs.lemmas.Iterator.{YieldsList-from_slice}
+use Rattle.std.proofs.lemmas.Iterator.Search.{all_from_yields_List}
+use Rattle.behaviour.specs.Sound.{blank, all_blank}
+use Rattle.behaviour.proofs.Loops.{blanks}
+use Rattle.behaviour.proofs.Walking.{out_of_range, walking_start, walking_no, walking_next, walking_end}
 use Rattle.behaviour.proofs.is_sound.Goals as goal
 
 pub returns-then-not-is_in_range : goal.returns-then-not-is_in_range
-returns-then-not-is_in_range c = out_of_range c.args.b (sym c.is_in_range.ensures ∙ not-true _ c.if-not-is_in_range.true-raw)
+returns-then-not-is_in_range c = out_of_range c.args.b.now (sym c.is_in_range.ensures ∙ c.if-not-is_in_range.true)
 
-pub loop-i-init : goal.loop-i-init
-loop-i-init c =
-    walking_start c.args.b (sized c.args.b _ c.well_formed.0) (sym c.is_in_range.ensures ∙ not-false _ c.if-not-is_in_range.false-raw)
-
-pub offset_bounds-b-i : goal.offset_bounds-b-i
-offset_bounds-b-i c = omega arith
-
-pub bounds-b-i : goal.bounds-b-i
-bounds-b-i c = omega arith
+pub loop-m-init : goal.loop-m-init
+loop-m-init c =
+    walking_start c.args.b.now c.split_at.result.0.now (search rules) (sym c.is_in_range.ensures ∙ c.if-not-is_in_range.false)
 
 pub returns-then-not-is_next : goal.returns-then-not-is_next
-returns-then-not-is_next c = walking_no c.loop-i.invariant (omega arith) (sym c.is_next.ensures ∙ not-true _ c.if-not-is_next.true-raw)
+returns-then-not-is_next c = walking_no c.loop-m.invariant (omega arith) (sym c.is_next.ensures ∙ c.if-not-is_next.true)
 
-pub bounds-table-x : goal.bounds-table-x
-bounds-table-x c =
-    let l = c.loop-i in
-    omega (arith, walking_from l.invariant (omega arith) (sym c.is_next.ensures ∙ not-false _ c.if-not-is_next.false-raw))
+pub loop-m-preserved : goal.loop-m-preserved
+loop-m-preserved c =
+    rw c.from-in-loop-m.ensures (walking_next c.loop-m.invariant (omega arith) (sym c.is_next.ensures ∙ c.if-not-is_next.false))
 
-pub loop-i-preserved : goal.loop-i-preserved
-loop-i-preserved c =
-    let l = c.loop-i in
-    walking_next l.invariant (omega arith) (sym c.is_next.ensures ∙ not-false _ c.if-not-is_next.false-raw) c.wide-x.result c.wide-x.ensures
+pub returns-then-all : goal.returns-then-all
+returns-then-all c =
+    let b = c.args.b.now in
+    let rest = c.split_at.result.1.now in
+    let r = all_from_yields_List blank _ _ c.all.result c.all.ensures.ran (YieldsList-from_slice rest cc) (λ x b q k. search (rules, tests)) in
+    let e : all_blank (drop b.count b.messages) ≡ c.all.result = ap all_blank (search rules) ∙ sym (blanks rest) ∙ sym r in
+    c.is_settled.ensures ∙ rw (e, c.if-all.true) at (walking_end c.loop-m.invariant (omega arith) (search rules))
 
-pub loop-i-2-init : goal.loop-i-2-init
-loop-i-2-init c = walking_end c.loop-i.invariant (omega arith)
-
-pub returns-then-not-is_blank : goal.returns-then-not-is_blank
-returns-then-not-is_blank c = blanking_no c.loop-i-2.invariant (omega arith) (sym c.is_blank.ensures ∙ not-true _ c.if-not-is_blank.true-raw)
-
-pub loop-i-2-preserved : goal.loop-i-2-preserved
-loop-i-2-preserved c = blanking_next c.loop-i-2.invariant (omega arith) (sym c.is_blank.ensures ∙ not-false _ c.if-not-is_blank.false-raw)
-
-pub returns : goal.returns
-returns c = c.is_settled.ensures ∙ blanking_end c.loop-i-2.invariant (omega arith)
+pub returns-else-all : goal.returns-else-all
+returns-else-all c =
+    let b = c.args.b.now in
+    let rest = c.split_at.result.1.now in
+    let r = all_from_yields_List blank _ _ c.all.result c.all.ensures.ran (YieldsList-from_slice rest cc) (λ x b q k. search (rules, tests)) in
+    let e : all_blank (drop b.count b.messages) ≡ c.all.result = ap all_blank (search rules) ∙ sym (blanks rest) ∙ sym r in
+    c.if-all.false ∙ rw (e, c.if-all.false) at (walking_end c.loop-m.invariant (omega arith) (search rules))

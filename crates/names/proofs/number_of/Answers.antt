@@ -1,58 +1,37 @@
-use Rattle.std.proofs.Common.{refl, sym, ◌∙◌, ℕ, ◌+◌, ◌-◌, ◌*◌, ◌^◌, ◌<◌, ◌≤◌, arith, get_or}
-use Rattle.names.proofs.Names.{room, room-all, room-more, name_done, name-long, name_pad, name-more, name-bad}
-use Rattle.names.proofs.number_of.Goals.{In-loop-k}
+use Rattle.std.proofs.Common.{rules, ◌≡◌, sym, ap, ◌∙◌, ℕ, ◌-◌, ◌++◌, replicate, drop, length, arith, tests}
+use Rattle.std.specs.Int.{w64, from_be_bytes}
+use Rattle.std.proofs.lemmas.List.{length-drop, take_all, drop-replicate}
+use Rattle.std.proofs.lemmas.Iterator.{YieldsList-from_slice}
+use Rattle.std.proofs.lemmas.Iterator.Search.{all_from_yields_List}
+use Rattle.names.specs.Names.{is_name_byte, name_number}
+use Rattle.names.proofs.Names.{name-filled, name-long, name-misspelt, name-nothing, spelt, filled}
+use Rattle.names.proofs.number_of.Goals.{then-name-gt-NAME_BYTES-via-then-name-gt-NAME_BYTES, then-name-gt-NAME_BYTES-via-else-name-gt-NAME_BYTES+then-not-all}
 use Rattle.names.proofs.number_of.Goals as goal
 
--- the number with the byte that comes next still fits
-grown : (c : In-loop-k) (d : ℕ) → d < 256 → (c.loop-k.v * 256 + d < room (c.loop-k.k - 1)) × (room (c.loop-k.k - 1) ≤ 2 ^ 64)
-grown c d h = let l = c.loop-k in (room-more l.k l.v d c.loop-k-test.true l.invariant.1 h, room-all (l.k - 1))
+pub returns-in_default : goal.returns-in_default
+returns-in_default c = name-nothing c.args.b.now c.args.from (search rules)
 
-pub loop-k-init : goal.loop-k-init
-unfolding room
-loop-k-init c = (refl, omega arith)
-
-pub overflow_mul-v : goal.overflow_mul-v
-overflow_mul-v c = omega (arith, grown (goal.at.overflow_mul-v c).In-loop-k 0 (omega arith))
-
-pub loop-k-smaller-then-b-i : goal.loop-k-smaller-then-b-i
-loop-k-smaller-then-b-i c = omega arith
-
-pub loop-k-preserved-then-b-i : goal.loop-k-preserved-then-b-i
-loop-k-preserved-then-b-i c =
-    let l = c.loop-k in
-    (l.invariant.0 ∙ name_pad _ _ _ _ c.loop-k-test.true c.if-b-i.true, omega (arith, grown (goal.at.loop-k-preserved-then-b-i c).In-loop-k 0 (omega arith)))
-
-pub overflow_mul-v-then-name_byte : goal.overflow_mul-v-then-name_byte
-overflow_mul-v-then-name_byte c = omega (arith, grown (goal.at.overflow_mul-v-then-name_byte c).In-loop-k 0 (omega arith))
-
-pub overflow_cast-v : goal.overflow_cast-v
-overflow_cast-v c = omega (arith, c.type_inv.b c.loop-k.i)
-
-pub overflow_add-v : goal.overflow_add-v
-overflow_add-v c =
-    let i = c.loop-k.i in
-    let d = get_or c.args.b.now i 0 in
-    omega (arith, grown (goal.at.overflow_add-v c).In-loop-k d (omega (arith, c.type_inv.b i)))
-
-pub loop-k-smaller : goal.loop-k-smaller
-loop-k-smaller c = omega arith
-
-pub loop-k-preserved : goal.loop-k-preserved
-loop-k-preserved c =
-    let i = c.loop-k.i in
-    let d = get_or c.args.b.now i 0 in (
-      c.loop-k.invariant.0
-          ∙ name-more _ _ _ _ c.loop-k-test.true c.if-b-i.false (sym c.name_byte.ensures ∙ c.if-name_byte.true),
-      (grown (goal.at.loop-k-preserved c).In-loop-k d (omega (arith, c.type_inv.b i))).0,
-    )
-
-pub returns-else-name_byte : goal.returns-else-name_byte
-returns-else-name_byte c =
-    name-bad _ _ _ _ c.loop-k-test.true c.if-b-i.false (sym c.name_byte.ensures ∙ c.if-name_byte.false)
-    ∙ sym c.loop-k.invariant.0
-
-pub returns-then-i-b : goal.returns-then-i-b
-returns-then-i-b c = name-long _ _ _ _ c.loop-k-test.false c.if-i-b.true ∙ sym c.loop-k.invariant.0
+pub returns-then-name-gt-NAME_BYTES : goal.returns-then-name-gt-NAME_BYTES
+returns-then-name-gt-NAME_BYTES c =
+    let s = c.in-Some.name.now in
+    let b = c.args.b.now in
+    let d = length-drop c.args.from b in
+    let e : s ≡ drop c.args.from b = c.in-Some.ensures.lookup.0.2 ∙ take_all (length b - c.args.from) (drop c.args.from b) (omega arith) in
+    rw (← e)
+    (elim c.then-name-gt-NAME_BYTES.branch [
+      | then-name-gt-NAME_BYTES-via-then-name-gt-NAME_BYTES w ↦ name-long s (omega arith)
+      | then-name-gt-NAME_BYTES-via-else-name-gt-NAME_BYTES+then-not-all w ↦
+          let r = all_from_yields_List is_name_byte _ _ w.all.result w.all.ensures.ran (YieldsList-from_slice s cc) (λ x b q k. search (rules, tests)) in
+          name-misspelt s (sym (spelt s) ∙ sym r ∙ w.if-not-all.true)
+    ])
 
 pub returns : goal.returns
-returns c = name_done _ _ _ _ c.loop-k-test.false c.if-i-b.false ∙ sym c.loop-k.invariant.0
+returns c =
+    let s = c.in-Some.name.now in
+    let b = c.args.b.now in
+    let d = length-drop c.args.from b in
+    let e : s ≡ drop c.args.from b = c.in-Some.ensures.lookup.0.2 ∙ take_all (length b - c.args.from) (drop c.args.from b) (omega arith) in
+    let r = all_from_yields_List is_name_byte _ _ c.all.result c.all.ensures.ran (YieldsList-from_slice s cc) (λ x b q k. search (rules, tests)) in
+    let f : c.copy_from_slice.new.self ++ drop (length s) (replicate {A = ℕ} 8 0) ≡ filled 8 s =
+    rw (c.copy_from_slice.ensures.after, drop-replicate {X = ℕ} (length s) 8 0) in
+    c.from_be_bytes.ensures ∙ ap (from_be_bytes w64) f ∙ sym (name-filled s (sym (spelt s) ∙ sym r ∙ c.if-not-all.false) (omega arith)) ∙ ap name_number e

@@ -1,20 +1,17 @@
 -- `report::put_words` meets its contract.
-use Rattle.std.proofs.Common.{[], ◌∷◌, ◌++◌}
-use Rattle.text.specs.Spelling.{decimal}
-use Rattle.text.proofs.Puts.{put_then, short-first, short-next}
+use Rattle.std.proofs.Common.{arith, ap, drop_of_length-le}
+use Rattle.names.specs.Places.{here}
+use Rattle.text.specs.Spelling.{tens}
+use Rattle.text.proofs.Puts.{puts_then, onward-step, onward-last}
+use Rattle.report.specs.Output.{numbers_text}
 use Rattle.report.proofs.put_words.Goals as goal
 
-pub put_bytes-a-requires : goal.put_bytes-a-requires
-put_bytes-a-requires c = short-first c.args.word.now ((32 ∷ decimal c.args.m) ++ ((32 ∷ decimal c.args.n) ++ (10 ∷ []))) c.requires.short
+pub put_decimal-requires : goal.put_decimal-requires
+unfolding tens
+put_decimal-requires c = omega (arith, c.from.ensures, c.type_inv.n.fits)
 
-pub put_number-b-requires : goal.put_number-b-requires
-put_number-b-requires c = record { n_bound = c.requires.m_bound; short = short-first (32 ∷ decimal c.args.m) ((32 ∷ decimal c.args.n) ++ (10 ∷ [])) (short-next ((32 ∷ decimal c.args.m) ++ ((32 ∷ decimal c.args.n) ++ (10 ∷ []))) c.requires.short c.put_bytes-a.ensures) }
-
-pub put_number-c-requires : goal.put_number-c-requires
-put_number-c-requires c = record { n_bound = c.requires.n_bound; short = short-first (32 ∷ decimal c.args.n) (10 ∷ []) (short-next ((32 ∷ decimal c.args.n) ++ (10 ∷ [])) (short-next ((32 ∷ decimal c.args.m) ++ ((32 ∷ decimal c.args.n) ++ (10 ∷ []))) c.requires.short c.put_bytes-a.ensures) c.put_number-b.ensures) }
-
-pub put-requires : goal.put-requires
-put-requires c = short-next (10 ∷ []) (short-next ((32 ∷ decimal c.args.n) ++ (10 ∷ [])) (short-next ((32 ∷ decimal c.args.m) ++ ((32 ∷ decimal c.args.n) ++ (10 ∷ []))) c.requires.short c.put_bytes-a.ensures) c.put_number-b.ensures) c.put_number-c.ensures
+pub loop-n-preserved : goal.loop-n-preserved
+loop-n-preserved c = onward-step c.loop-n.invariant (ap numbers_text (here 0 c.args.numbers.now c.loop-n.n-index c.loop-n-test.true)) (rw c.from.ensures at (puts_then c.put.ensures c.put_decimal.ensures))
 
 pub returns : goal.returns
-returns c = put_then c.put_bytes-a.ensures (put_then c.put_number-b.ensures (put_then c.put_number-c.ensures c.put.ensures))
+returns c = puts_then c.put_bytes.ensures (onward-last c.loop-n.invariant (ap numbers_text (drop_of_length-le c.args.numbers.now c.loop-n-test.false)) c.put-2.ensures)

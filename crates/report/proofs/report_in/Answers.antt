@@ -2,14 +2,14 @@
 use Rattle.report.proofs.Reporting.{reports-client, reports-server, can-judge, reports-both}
 use Rattle.report.proofs.report_in.Goals as goal
 
-pub returns-then-f-ne0 : goal.returns-then-f-ne0
-returns-then-f-ne0 c = reports-client c.args.client.now c.args.server.now c.read_file-a.ensures c.if-f-ne0.true c.say_refused.ensures
+pub returns-in-Err : goal.returns-in-Err
+returns-in-Err c = reports-client c.args.client.now c.args.server.now c.read_file.ensures c.in-Err.is c.say_refused.ensures
 
-pub returns-then-g-ne0 : goal.returns-then-g-ne0
-returns-then-g-ne0 c = reports-server c.args.client.now c.args.server.now c.read_file-a.ensures c.read_file-b.ensures c.if-f-ne0.false c.if-g-ne0.true c.say_refused-then-g-ne0.ensures
+pub returns-in-Err-read_file : goal.returns-in-Err-read_file
+returns-in-Err-read_file c = reports-server c.args.client.now c.args.server.now c.read_file.ensures c.in-Ok.is c.read_file-2.ensures c.in-Err-read_file.is c.say_refused-in-Err-read_file.ensures
 
 pub say_verdict-requires : goal.say_verdict-requires
-say_verdict-requires c = can-judge c.args.client.now c.args.server.now c.read_file-a.ensures c.read_file-b.ensures c.if-f-ne0.false c.if-g-ne0.false c.requires
+say_verdict-requires c = can-judge c.args.client.now c.args.server.now c.read_file.ensures c.in-Ok.is c.read_file-2.ensures c.in-Ok-read_file.is c.requires
 
 pub returns : goal.returns
-returns c = reports-both c.args.client.now c.args.server.now c.read_file-a.ensures c.read_file-b.ensures c.if-f-ne0.false c.if-g-ne0.false c.say_verdict.ensures
+returns c = reports-both c.args.client.now c.args.server.now c.read_file.ensures c.in-Ok.is c.read_file-2.ensures c.in-Ok-read_file.is c.say_verdict.ensures

@@ -1,23 +1,16 @@
 -- `report::say_run` meets its contract.
-use Rattle.std.proofs.Common.{arith}
-use Rattle.text.specs.Spelling.{tens}
-use Rattle.report.proofs.Telling.{told-long, told-fits}
-use Rattle.report.proofs.Sizes.{stuck-length, stuck-short}
+use Rattle.std.proofs.Common.{arith, rules}
+use borrow.Author.Rules.{in_lives}
+use Rattle.text.specs.Fronts.{fronts-length}
+use Rattle.report.proofs.Sizes.{stuck-short}
 use Rattle.report.proofs.say_run.Goals as goal
 
-pub put_stuck-n-requires : goal.put_stuck-n-requires
-unfolding tens
-put_stuck-n-requires c = record { cause_bound = (omega (arith, c.wide-e.ensures, c.ranges.cause), c.requires); short = stuck-short c.args.c c.args.names.now c.wide-e.result c.args.run.now c.requires }
-
-pub returns-then-out-n : goal.returns-then-out-n
-returns-then-out-n c = told-long (rw c.wide-e.ensures at c.put_stuck-n.ensures) c.if-out-n.true c.too_long.ensures
-
-pub put_stuck-requires : goal.put_stuck-requires
-unfolding tens
-put_stuck-requires c = record { cause_bound = (omega (arith, c.wide-e.ensures, c.ranges.cause), c.requires); short = stuck-short c.args.c c.args.names.now c.wide-e.result c.args.run.now c.requires }
+pub put_front-requires : goal.put_front-requires
+put_front-requires c κs within =
+    let s = stuck-short c.args.c.now c.args.names.now c.args.cause c.args.run.now c.requires in
+    (simp (in_lives, within.0, within.1.0, within.1.1.0, within.1.1.1.0) (search rules), search rules)
 
 pub overflow_cast-result : goal.overflow_cast-result
-overflow_cast-result c = omega (arith, c.put_stuck-n.ensures.place, stuck-length c.args.c c.args.names.now c.wide-e.result c.args.run.now, c.requires)
-
-pub returns : goal.returns
-returns c = told-fits (rw c.wide-e.ensures at c.put_stuck-n.ensures) c.if-out-n.false (rw c.wide-e.ensures at c.put_stuck.ensures)
+overflow_cast-result c =
+    let s = stuck-short c.args.c.now c.args.names.now c.args.cause c.args.run.now c.requires in
+    record { fits = omega (arith, fronts-length {n = c.in_ok-n.n} c.put_front.ensures (grind arith), s.ends) }

@@ -1,43 +1,37 @@
 -- `tokens::read_label` meets its contract.
-use Rattle.std.proofs.Common.{sym, ap, ◌∙◌}
-use Rattle.tokens.specs.declared.Step.{Step}
-use Rattle.tokens.specs.Tokens.{marked}
-use Rattle.tokens.specs.Seen.{step_of}
-use Rattle.tokens.proofs.Labels.{label-none, take-label, send_label, no_name, a-name, label-word, marked-end, marked_more}
+use Rattle.std.proofs.Common.{◌≡◌, ◌∙◌, sym, eqb, arith}
+use Rattle.std.proofs.lemmas.Bool.{false≢true}
+use Rattle.std.proofs.lemmas.Slice.Eq.{slice_eq-Decides}
+use Rattle.std.proofs.lemmas.Bool.Decides.{Decides-eqb, nat_tests}
+use Rattle.std.proofs.lemmas.Grind.{common_steps}
+use Rattle.tokens.specs.Tokens.{label}
+use Rattle.tokens.proofs.Labels.{label-none, label-ckp, label-sign, spoken}
+use Rattle.tokens.proofs.read_label.Goals.{After-name_of}
 use Rattle.tokens.proofs.read_label.Goals as goal
 
-pub returns-then-b-eq0 : goal.returns-then-b-eq0
-returns-then-b-eq0 c = label-none _ c.if-b-eq0.true
-
-pub returns-then-n-eq0 : goal.returns-then-n-eq0
-returns-then-n-eq0 c =
-    no_name _ _ c.if-n-eq0.true ∙ take-label _ _ c.if-b-eq0.false c.if-c-eq63.true c.number_of-n.ensures
-
-pub returns-then-c-eq63 : goal.returns-then-c-eq63
-returns-then-c-eq63 c =
-    a-name _ _ c.if-n-eq0.false ∙ take-label _ _ c.if-b-eq0.false c.if-c-eq63.true c.number_of-n.ensures
-
-pub returns-then-n-eq0-2 : goal.returns-then-n-eq0-2
-returns-then-n-eq0-2 c =
-    no_name _ _ c.if-n-eq0-2.true ∙ send_label _ _ c.if-b-eq0.false c.if-c-eq33.true c.number_of-n-then-c-eq33.ensures
-
-pub returns-then-c-eq33 : goal.returns-then-c-eq33
-returns-then-c-eq33 c =
-    a-name _ _ c.if-n-eq0-2.false ∙ send_label _ _ c.if-b-eq0.false c.if-c-eq33.true c.number_of-n-then-c-eq33.ensures
+pub returns-then-eq : goal.returns-then-eq
+returns-then-eq c =
+    let e = (slice_eq-Decides Decides-eqb c.args.b.now c.as_slice.result.now _ c.eq.ensures).0 c.if-eq.true in
+    sym (label-ckp _ (e ∙ c.as_slice.ensures))
 
 pub returns-in_default : goal.returns-in_default
-returns-in_default c =
-    ap (λ (r : Step). marked (step_of c.args.b.now r)) (sym c.in_default.is)
-    ∙ label-word _ _ c.if-b-eq0.false c.if-c-eq63.false c.if-c-eq33.false c.literal.ensures
+returns-in_default c = sym (label-none _ c.in_default.ensures.cases)
 
-pub returns-then-n-b : goal.returns-then-n-b
-returns-then-n-b c =
-    marked_more _ _ c.if-n-b.true
-    ∙ ap (λ (r : Step). marked (step_of c.args.b.now r)) (sym c.in-To.is)
-    ∙ label-word _ _ c.if-b-eq0.false c.if-c-eq63.false c.if-c-eq33.false c.literal.ensures
+-- another label than `ckp`
+by_sign : (c : After-name_of) → label c.args.b.now ≡ spoken (eqb c.in-Some.field-0-0.now 63) (eqb c.in-Some.field-0-0.now 33) c.name_of.result
+by_sign c =
+    let same = slice_eq-Decides Decides-eqb c.args.b.now c.as_slice.result.now _ c.eq.ensures in
+    label-sign _ _ _ _ c.in-Some.ensures.cases.0 c.name_of.ensures
+    (λ e. absurd (false≢true (sym c.if-eq.false ∙ same.1 (e ∙ sym c.as_slice.ensures))))
 
-pub returns : goal.returns
-returns c =
-    marked-end _ _ c.if-n-b.false
-    ∙ ap (λ (r : Step). marked (step_of c.args.b.now r)) (sym c.in-To.is)
-    ∙ label-word _ _ c.if-b-eq0.false c.if-c-eq63.false c.if-c-eq33.false c.literal.ensures
+pub returns-in_default-name_of : goal.returns-in_default-name_of
+returns-in_default-name_of c = sym (rw c.in_default-name_of.is at (by_sign (goal.at.returns-in_default-name_of c).After-name_of))
+
+pub returns-in-63 : goal.returns-in-63
+returns-in-63 c = let e = rw c.in-Some-name_of.is at (by_sign (goal.at.returns-in-63 c).After-name_of) in grind (arith, nat_tests, common_steps)
+
+pub returns-in-33 : goal.returns-in-33
+returns-in-33 c = let e = rw c.in-Some-name_of.is at (by_sign (goal.at.returns-in-33 c).After-name_of) in grind (arith, nat_tests, common_steps)
+
+pub returns-in_default-sign : goal.returns-in_default-sign
+returns-in_default-sign c = let e = rw c.in-Some-name_of.is at (by_sign (goal.at.returns-in_default-sign c).After-name_of) in grind (arith, nat_tests, common_steps)

@@ -1,10 +1,10 @@
 -- `tokens::skip` meets its contract.
-use Rattle.std.proofs.Common.{◌≡◌, ◌-◌, length, drop}
+use Rattle.std.proofs.Common.{◌≡◌, length}
 use Rattle.tokens.specs.Tokens.{spaces}
 use Rattle.tokens.proofs.skip.Given as goal
 
-abbrev pub invariant-loop-i : goal.invariant-loop-i
-invariant-loop-i l = spaces (drop l.at l.s) ≡ spaces (drop l.i l.s)
+abbrev pub invariant-loop-others : goal.invariant-loop-others
+invariant-loop-others l = spaces l.rest ≡ spaces l.left
 
-abbrev pub decreases-loop-i : goal.decreases-loop-i
-decreases-loop-i l = length l.s - l.i
+abbrev pub decreases-loop-others : goal.decreases-loop-others
+decreases-loop-others l = length l.left

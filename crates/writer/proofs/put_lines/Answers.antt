@@ -1,24 +1,30 @@
 -- `writer::put_lines` meets its contract.
-use Rattle.std.proofs.Common.{arith, rules}
+use Rattle.std.proofs.Common.{rules, arith, refl, ap, sym, length}
+use mathlib.Core.Logic.{inl, inr}
 use Rattle.text.specs.Spelling.{tens}
-use Rattle.writer.proofs.Telling.{go-start, go-mark, go-messages, go-more, go-end}
+use Rattle.text.proofs.Puts.{onward-step, onward-end}
+use Rattle.writer.proofs.States.{state-here, no-mark-left, no-sign-left}
 use Rattle.writer.proofs.put_lines.Goals as goal
 
-pub loop-k-init : goal.loop-k-init
-loop-k-init c = go-start _ _ _ _ (search rules) (search rules)
-
-pub put_mark-p-requires : goal.put_mark-p-requires
+pub put_mark-requires : goal.put_mark-requires
 unfolding tens
-put_mark-p-requires c = let h = c.loop-k-test.true in record { k_bound = omega arith; short = go-mark c.loop-k.invariant h c.requires.short }
-
-pub put_messages-r-requires : goal.put_messages-r-requires
-put_messages-r-requires c = record { n_le_most_lines = c.requires.n_le_most_lines; i_le_n = c.loop-k.invariant.within; short = go-messages c.loop-k.invariant c.loop-k-test.true c.put_mark-p.ensures c.requires.short }
+put_mark-requires c =
+    let s = c.in-Some.ensures.steps in
+    omega (arith, c.loop-k.invariant.3, s.1, ap length s.0.0)
 
 pub loop-k-preserved : goal.loop-k-preserved
-loop-k-preserved c = go-more c.loop-k.invariant c.loop-k-test.true c.put_mark-p.ensures (c.put_messages-r.ensures.put, (c.put_messages-r.ensures.within, c.put_messages-r.ensures.rest))
-
-pub shape_of-buf : goal.shape_of-buf
-shape_of-buf c = c.loop-k.invariant.onward.size
+loop-k-preserved c =
+    let s = c.in-Some.ensures.steps in
+    let i = c.loop-k.invariant in (
+      search rules,
+      tt,
+      rw (c.put_messages-rest.ensures.rest, s.2, sym s.1) (onward-step (onward-step i.2 (rw (sym s.1) (state-here _ _ _ _ s.0.0 s.0.1)) c.put_mark.ensures) refl c.put_messages-rest.ensures.put),
+      omega (arith, i.3, s.2, ap length s.0.0),
+    )
 
 pub returns : goal.returns
-returns c = go-end c.loop-k.invariant c.loop-k-test.false
+returns c =
+    onward-end c.loop-k.invariant.2 (elim c.in-None.ensures.steps.0 [
+      | inl h ↦ no-mark-left _ _ _ _ h.1.0
+      | inr h ↦ no-sign-left _ _ _ _ h.1.0
+    ])

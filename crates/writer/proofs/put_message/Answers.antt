@@ -3,9 +3,10 @@ use Rattle.std.proofs.Common.{arith}
 use Rattle.text.specs.Spelling.{tens}
 use Rattle.writer.proofs.put_message.Goals as goal
 
-pub put_line-requires : goal.put_line-requires
+pub put_line-requires-clause-from_bound : goal.put_line-requires-clause-from_bound
 unfolding tens
-put_line-requires c = record { from_bound = omega arith; to_bound = omega arith; short = rw (c.wide-from.ensures, c.label_of-label.ensures, c.wide-to.ensures) c.requires }
+put_line-requires-clause-from_bound c = omega (arith, c.from.ensures)
 
-pub returns : goal.returns
-returns c = rw (c.wide-from.ensures, c.label_of-label.ensures, c.wide-to.ensures) at c.put_line.ensures
+pub put_line-requires-clause-to_bound : goal.put_line-requires-clause-to_bound
+unfolding tens
+put_line-requires-clause-to_bound c = omega (arith, c.from-2.ensures)

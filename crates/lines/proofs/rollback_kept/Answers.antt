@@ -1,7 +1,0 @@
--- `lines::rollback_kept` meets its contract: what `held` makes of what `Session::rollback` answers.
-use Rattle.std.proofs.Common.{ap, ◌∙◌}
-use Rattle.lines.specs.Lent.{kept_of}
-use Rattle.lines.proofs.rollback_kept.Goals as goal
-
-pub returns : goal.returns
-returns c = c.held.ensures ∙ ap (kept_of c.args.line) c.rollback.ensures

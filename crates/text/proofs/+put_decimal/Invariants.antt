@@ -1,5 +1,0 @@
--- The recursion of `text::put_decimal` ends: its digits to come get fewer.
-use Rattle.text.proofs.+put_decimal.Given as goal
-
-abbrev pub decreases-put_decimal : goal.decreases-put_decimal
-decreases-put_decimal l = l.k

@@ -1,0 +1,5 @@
+-- The recursion of `Text::put_decimal` ends: its digits to come get fewer.
+use Rattle.text.proofs.Text.+put_decimal.Given as goal
+
+abbrev pub decreases-put_decimal : goal.decreases-put_decimal
+decreases-put_decimal l = l.k

@@ -1,9 +1,0 @@
--- `vectors::words::next` meets its contract: the place never falls, and stays within the text.
-use Rattle.std.proofs.Common.{◌≤◌, ◌-◌, length}
-use Rattle.vectors.proofs.words.next.Given as goal
-
-abbrev pub invariant-loop-i : goal.invariant-loop-i
-invariant-loop-i l = (l.at ≤ l.i) × (l.i ≤ length l.s)
-
-abbrev pub decreases-loop-i : goal.decreases-loop-i
-decreases-loop-i l = length l.s - l.i
