@@ -1,6 +1,8 @@
 // The verdict program: the report on the two files that its arguments name. All of it is worked out in `report`.
 #![tactic(auto)]
 
+ghost use Rattle.std.specs.Prelude.{◌≤◌, length};
+
 use std::io;
 use std::rt::Env;
 
@@ -11,7 +13,9 @@ const PATH: usize = 4096;
 const TEXT: usize = 320000;
 
 // The argument `i`, read into `name`. One that is missing or that does not fit counts as empty.
-fn argument<'a>(rt: &impl Env, i: usize, name: &'a mut [u8]) -> &'a [u8] {
+fn argument<'a>(rt: &impl Env, i: usize, name: &'a mut [u8]) -> &'a [u8]
+    ensures { length result.now ≤ length name.old }
+{
     let n = rt.arg(i, name).unwrap_or(0);
     &name[..n]
 }

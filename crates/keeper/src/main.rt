@@ -2,6 +2,10 @@
 // script of calls on two lines; for every call it prints what was said and what the record then holds.
 #![tactic(auto)]
 
+ghost use Rattle.std.specs.Prelude.{◌≡◌};
+ghost use Rattle.session.specs.Answers.{messaged, rolled_back};
+ghost use Rattle.lines.specs.Lent.{kept_of, OpensInto};
+
 use behaviour::{Behaviour, Refusal};
 use session::Session;
 use stands::{ClientState, ServerState, Stand};
@@ -45,20 +49,40 @@ impl Line {
     }
 
     // The record is lent for an opening, and comes back.
-    fn open(&mut self, rt: &impl Print) -> io::Result<()> {
-        let outcome = lines::open(&mut self.record, self.client, self.server);
-        self.tell(rt, "open", outcome)
+    fn lend_open(&mut self) -> Result<(), Refusal>
+        ensures { OpensInto self.old.client self.old.server self.old.record (record { session = self.new.record; outcome = result }) }
+    {
+        lines::open(&mut self.record, self.client, self.server)
     }
 
     // The record is lent for a message, and comes back.
-    fn say(&mut self, rt: &impl Print, name: &str) -> io::Result<()> {
-        let outcome = lines::message(&mut self.record, self.client, self.server, name.as_bytes());
-        self.tell(rt, name, outcome)
+    fn lend_message(&mut self, name: &[u8]) -> Result<(), Refusal>
+        ensures { kept_of self.old.record (messaged self.old.client self.old.server self.old.record name.now)
+            ≡ record { session = self.new.record; outcome = result } }
+    {
+        lines::message(&mut self.record, self.client, self.server, name)
     }
 
     // The record is lent for a rollback, and comes back.
+    fn lend_rollback(&mut self) -> Result<(), Refusal>
+        ensures { kept_of self.old.record (rolled_back self.old.client self.old.server self.old.record)
+            ≡ record { session = self.new.record; outcome = result } }
+    {
+        lines::rollback(&mut self.record, self.client, self.server)
+    }
+
+    fn open(&mut self, rt: &impl Print) -> io::Result<()> {
+        let outcome = self.lend_open();
+        self.tell(rt, "open", outcome)
+    }
+
+    fn say(&mut self, rt: &impl Print, name: &str) -> io::Result<()> {
+        let outcome = self.lend_message(name.as_bytes());
+        self.tell(rt, name, outcome)
+    }
+
     fn back(&mut self, rt: &impl Print) -> io::Result<()> {
-        let outcome = lines::rollback(&mut self.record, self.client, self.server);
+        let outcome = self.lend_rollback();
         self.tell(rt, "rbk", outcome)
     }
 }

@@ -82,8 +82,9 @@ impl Play {
         rt.write_all(line)?;
         let answer = match call {
             Call::Pair(names) => {
+                println!(rt;)?;
                 *self = Play::new(rt, names);
-                return println!(rt;);
+                return Ok(());
             }
             Call::At(stand) => {
                 self.session = Session { stand };
