@@ -1,7 +1,8 @@
 -- Where a rollback leads, by both sides' entries: nowhere, or to a node with a number of 16 bits.
-use Rattle.std.specs.Prelude.{◌≡◌, refl, ℕ, ◌<◌, ◌≤◌, ◌*◌, Option, Some, None}
-use Rattle.std.proofs.Common.{◌∙◌, arith}
+use Rattle.std.specs.Prelude.{◌≡◌, refl, List, ℕ, suc, ◌<◌, ◌≤◌, ◌*◌, Option, Some, None}
+use Rattle.std.proofs.Common.{◌∙◌, arith, mul-le-mul}
 use Rattle.behaviour.specs.declared.Behaviour.{Behaviour}
+use Rattle.behaviour.specs.Sound.{total}
 use Rattle.stands.specs.Points.{ClientPoint, ServerPoint}
 use Rattle.stands.specs.Stands.{back}
 use Rattle.compliance.specs.SoundStand.{Marked, client_held, server_held}
@@ -17,6 +18,14 @@ use Rattle.pairing.specs.Points.{back-is, back_below}
 pub data Backs (n : ℕ) (v o : Option ℕ) : Type 0 where
   nowhere : v ≡ None → o ≡ None → Backs n v o
   somewhere : (m : ℕ) → v ≡ Some m → m < n → m < 65535 → o ≡ Some m → Backs n v o
+
+-- a return point's number is never 65535
+pub entry-small : (l : List ℕ) (states scale y : ℕ) → y < states → states * suc (total l) ≤ 128 → scale ≤ 128 → y * suc (total l) * scale < 65535
+entry-small l states scale y h m n =
+    let g : y ≤ states = omega arith in
+    let e : suc (total l) ≤ suc (total l) = omega arith in
+    let d : y * suc (total l) ≤ 128 = omega (arith, mul-le-mul g e) in
+    omega (arith, mul-le-mul d n)
 
 pub backs : (c s : Behaviour) → Ranged c → Ranged s → size c ≤ 128 → size s ≤ 128 → (g : ClientPoint) (h : ServerPoint) → Marked c.marks (client_held g) → Marked s.marks (server_held h)
     → Backs (size c * 128) (back_of (back_entry c.marks 128 (client_held g)) (back_entry s.marks 1 (server_held h))) (omap (num c s) (back g h))
