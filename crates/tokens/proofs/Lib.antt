@@ -2,5 +2,6 @@
 mod Laws
 mod Digits
 mod Labels
+mod Spaces
 mod Texts
 mod Lines

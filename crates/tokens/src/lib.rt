@@ -33,15 +33,13 @@ pub struct Head {
 }
 
 // What follows the spaces that come first.
-#[tactic(auto, unfolding(crate::specs::Tokens::spaces))]
 fn skip(rest: &[u8]) -> &[u8]
     ensures { result.now ≡ spaces rest.now }
 {
-    let mut left = rest;
-    while let Some((b' ', others)) = left.split_first() {
-        left = others;
+    match rest.iter().position(|&b| b != b' ') {
+        Some(n) => &rest[n..],
+        None => &[],
     }
-    left
 }
 
 // The bytes `w`.
