@@ -1,10 +1,11 @@
 // The behaviour value: a description's states, marks and messages, sorted; and the refusal.
 #![tactic(auto)]
 
-ghost use Rattle.std.specs.Prelude.{◌≡◌, List, ◌&&◌, ◌+◌, ◌≤◌, leb, eqb, length, get_or, take};
+ghost use Rattle.std.specs.Prelude.{◌≡◌, List, Some, ◌&&◌, ◌+◌, ◌≤◌, leb, eqb, length, get_or, take};
 ghost use Rattle.behaviour.specs.declared.Message.{Message};
 ghost use Rattle.behaviour.specs.Pick.{is};
 ghost use Rattle.behaviour.specs.Refusals.{row_number, refusal};
+ghost use Rattle.behaviour.specs.Printed.{refusal_text};
 ghost use Rattle.behaviour.specs.Spoken.{settled_by};
 ghost use Rattle.behaviour.specs.Limits.{most_states, most_lines};
 ghost use Rattle.behaviour.specs.Sound.{before, between, blank, signed, markable, total, sound};
@@ -141,7 +142,10 @@ impl From<Reason> for Refusal {
     }
 }
 
+// Its number and its place.
 impl fmt::Display for Refusal {
+    ghost output = { λ f. Some (refusal_text f) };
+
     fn fmt<W: fmt::Write>(&self, f: &mut fmt::Formatter<W>) -> fmt::Result {
         let number = self.reason.number();
         let place = self.place;
